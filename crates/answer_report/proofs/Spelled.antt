@@ -164,6 +164,3 @@ witness_fits o (witness.StuckPair first other) h = (place_event o first h.0, pla
 
 pub canonical_fits : (o : Clocks) (s : Slice) (op : WitnessOperator) (w : Witness) → IsCanonical o s op (witness_of w) → WitnessFits (lengths o) w
 canonical_fits o s op w h = witness_fits o w (canonical_there o s op (witness_of w) h)
-
-pub nothing_fits : (o : Clocks) (w : Witness) → witness_of w ≡ W.Nothing → WitnessFits (lengths o) w
-nothing_fits o w h = witness_fits o w (subst (WitnessThere o) (sym h) tt)

@@ -1,29 +1,20 @@
 -- What an answer leaves to the next one.
 use Rattle.std.proofs.Common.{◌≡◌, ℕ, zero, suc, List, [], ◌∷◌, length, Some, None, slice_get, slice_index_or, refl, sym, ◌∙◌, ap, subst, arith}
-use Rattle.std.specs.Prelude.{IfSome}
 use Rattle.std.proofs.lemmas.Option.{none-some, same_Some, slice_get_past}
 use Rattle.slice_workers.specs.Views.{SettledView}
-use Rattle.slice_graph.specs.Growing.{IsEarlierSystem}
-use Rattle.trace_growth.specs.Growing.{IsTrace}
 use Rattle.rctl_parts.specs.declared.part.Part.{Part}
 use Rattle.rctl_parts.specs.Pieces.{Piece, disjuncts_of}
-use Rattle.rctl_parts.specs.MadeFor.{AllFit}
 use Rattle.part_pulls.specs.declared.observed.Observed.{Observed}
-use Rattle.part_pulls.specs.Observing.{AreFull, clocks_seen, scope_seen}
+use Rattle.part_pulls.specs.Observing.{clocks_seen}
 use Rattle.part_pulls.specs.Counters.{CountersRise}
 use Rattle.part_pulls.specs.Later.{IsLater}
 use Rattle.conjunctions.specs.declared.round.Kept.{Kept}
 use Rattle.conjunctions.specs.Numbering.{all_conjunctions}
 use Rattle.conjunctions.specs.Settling.{IsSettled, AreSettled, AreFloors}
 use Rattle.observation.specs.Growing.{GrowingView}
-use Rattle.observation.proofs.Later.{later_on, later_itself}
+use Rattle.observation.proofs.Later.{later_on}
 use Rattle.answering.specs.Going.{GoesOn}
 use Rattle.answering.proofs.Earlier.{system_on, no_system}
-
--- the law that rows may be begun from once more was observed
-abbrev pub KeptRows : Type 0
-KeptRows = (before after : Observed) (ds : List (List Piece)) (rows : List SettledView) → IsTrace before.trace.states → IsTrace after.trace.states → AreFull before → IsLater before after
-    → AllFit (scope_seen before) ds → CountersRise after ds → AreSettled before (all_conjunctions ds) rows → AreFloors after rows (all_conjunctions ds)
 
 -- nothing is kept
 pub goes_on_anew : (kept : Kept) (growing : GrowingView) → kept.settled ≡ [] → kept.system ≡ None → GoesOn kept growing
@@ -31,19 +22,6 @@ goes_on_anew kept growing rows system = record {
   rows = record { floors = λ later is more rise. subst (λ (rs : List SettledView). AreFloors later rs (all_conjunctions (disjuncts_of growing.disjuncts))) (sym rows) tt };
   system = no_system (clocks_seen growing.seen) kept.system system;
 }
-
--- behind an answer
-pub goes_on_settled : KeptRows → (kept : Kept) (growing : GrowingView) → IsTrace growing.seen.trace.states → AreFull growing.seen → AllFit (scope_seen growing.seen) (disjuncts_of growing.disjuncts)
-    → AreSettled growing.seen (all_conjunctions (disjuncts_of growing.disjuncts)) kept.settled → IfSome kept.system (IsEarlierSystem (clocks_seen growing.seen)) → GoesOn kept growing
-goes_on_settled law kept growing is full fit settles system = record {
-  rows = record { floors = λ later now more rise. law growing.seen later (disjuncts_of growing.disjuncts) kept.settled is now full more fit rise settles };
-  system = system;
-}
-
--- each conjunction may begin from its rows
-pub floors_now : (kept : Kept) (growing : GrowingView) → GoesOn kept growing → IsTrace growing.seen.trace.states → CountersRise growing.seen (disjuncts_of growing.disjuncts)
-    → AreFloors growing.seen kept.settled (all_conjunctions (disjuncts_of growing.disjuncts))
-floors_now kept growing goes is rise = goes.rows.floors growing.seen is (later_itself growing.seen) rise
 
 -- once more was observed
 pub goes_on_later : (kept : Kept) (before after : GrowingView) → after.disjuncts ≡ before.disjuncts → IsLater before.seen after.seen → GoesOn kept before → GoesOn kept after

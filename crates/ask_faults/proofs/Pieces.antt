@@ -1,6 +1,6 @@
 -- Texts that are put one behind the other.
 use Rattle.std.proofs.Common.{◌≡◌, ℕ, zero, suc, ◌≤◌, List, [], ◌∷◌, ◌++◌, length, map, take, drop, refl, sym, ap, subst, ◌∙◌, append_assoc, arith}
-use Rattle.std.specs.Prelude.{OnOk, Result, codes, min}
+use Rattle.std.specs.Prelude.{OnOk, Result, min}
 use Rattle.std.proofs.lemmas.List.{drop_all}
 use Rattle.ask_faults.specs.Lines.{shown, there_text}
 
@@ -21,10 +21,6 @@ last_as r out a b c d x y first a_is second b_is =
 
 pub none_behind : (text : List ℕ) (place : ℕ) → length text ≤ place → [] ≡ drop place text
 none_behind text place past = sym (drop_all place text past)
-
-pub there_none : (rest : List ℕ) → length rest ≡ 0 → there_text rest ≡ codes "the end of the question"
-there_none [] none = refl
-there_none (b ∷ bs) none = absurd (omega (arith, none))
 
 none_taken : (k : ℕ) → take {A = ℕ} k [] ≡ []
 none_taken zero = refl

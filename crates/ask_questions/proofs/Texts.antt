@@ -96,13 +96,6 @@ asked_so texts es asked read are = record { fit = are.fit; each = each_of asked.
 
 -- ---- one question more in the list
 
-pub none_added : (list : AskedList) → IsAskedList list → list.listed ≡ [] → list.classed.disjuncts ≡ [] → AreAddedTo list [] []
-none_added list is empty nothing = record {
-  fit = is;
-  each = subst (AreKinds list [] []) (sym empty) tt;
-  whole = subst (λ (ls : List Listed). AreBehind 0 ls (length list.classed.disjuncts)) (sym empty) (sym (ap length nothing));
-}
-
 stays : (before after : AskedList) (new : Question) → Adds before new after → (q : Question) (one : Listed) → IsEntry before q one → IsEntry after q one
 stays before after new adds q one is = record {
   name = is.name;

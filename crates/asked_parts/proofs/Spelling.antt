@@ -1,6 +1,5 @@
 -- The asked parts spell what is asked of the formulas of the parts.
 use Rattle.std.proofs.Common.{◌≡◌, ◌↔◌, Bool, true, false, MatchBool, List, [], ◌∷◌, ◌++◌, map, sym, ap, subst, refl}
-use Rattle.std.proofs.lemmas.List.{map-append}
 use Rattle.run_model.specs.Cut.{initial}
 use Rattle.run_model.specs.Run.{Run}
 use Rattle.run_model.specs.Consistent.{IsOrder}
@@ -58,6 +57,3 @@ answered_by_parts r order names form f ds same one =
     (λ h. alike.0 (by.0 h), λ h. by.1 (alike.1 h))
 
 -- ---- one disjunct more
-
-pub asked-append : (form : Form) (ds : List (List Piece)) (d : List Piece) → asked_disjuncts form (ds ++ d ∷ []) ≡ asked_disjuncts form ds ++ asked_pieces form d ∷ []
-asked-append form ds d = map-append (asked_pieces form) ds (d ∷ [])

@@ -68,9 +68,6 @@ bounds_along s t v w same_system same_words bounds =
     let Q : List ℕ → Type 0 = λ x. AreBounds t x in
     subst Q same_words (subst P same_system bounds)
 
-pub system_along : (s t : SystemView) → s ≡ t → IsSystem s → IsSystem t
-system_along s t same is = let P : SystemView → Type 0 = IsSystem in subst P same is
-
 -- a step of the machine at equal systems, floors, words and numbers
 pub step_along : (s t : SystemView) (v w : List ℕ) (p q m n : ℕ) → s ≡ t → v ≡ w → p ≡ q → m ≡ n → IsMachineStep s v p m → IsMachineStep t w q n
 step_along s t v w p q m n same_system same_floor same_place same_number step =

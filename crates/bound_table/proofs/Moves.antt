@@ -1,10 +1,10 @@
 -- Each step keeps the rule.
 use Rattle.std.proofs.Common.{◌≡◌, ℕ, zero, suc, ◌+◌, ◌^◌, ◌<◌, ◌≤◌, inl, inr, List, [], ◌∷◌, true, false, length, get_or, set, sum, take, max, Option, None, refl, arith, sym, ap, ◌∙◌, subst}
-use Rattle.std.proofs.lemmas.List.{length-set, get_or-take, take_all}
+use Rattle.std.proofs.lemmas.List.{length-set, get_or-take}
 use Rattle.std.proofs.Math.Seq.{take-set-lt}
-use mathlib.Core.Option.{some, none, some-injective, some-ne-none}
+use mathlib.Core.Option.{some, none}
 use lib.ListN.{get_elem?}
-use Rattle.atomic_table.specs.Table.{State, Me, step, keeps, Allows, Splits, Joins, opening}
+use Rattle.atomic_table.specs.Table.{State, Me, step, keeps, Allows, Splits, Joins}
 use Rattle.atomic_table.proofs.Lists.{at_set, at_snoc, set_again}
 use Rattle.std.proofs.Math.Nat.{mul-le-mul_left}
 use Rattle.pota_base.specs.Shape.{IsShape}
@@ -12,15 +12,14 @@ use Rattle.pull_system.specs.Vector.{IsAtMost, IsMaximum}
 use Rattle.pull_system.specs.System.{SystemView}
 use Rattle.pull_system.proofs.Climbing.{set_case}
 use Rattle.raise_machine.specs.Bounds.{IsBound, AreBounds}
-use Rattle.raise_machine.proofs.Raising.{bounds_set, bound_max, bound_less}
+use Rattle.raise_machine.proofs.Raising.{bounds_set, bound_max}
 use Rattle.bound_table.specs.declared.seat.SeenBounds.{SeenBounds}
 use Rattle.bound_table.specs.inside.Kept.{larger}
 use Rattle.bound_table.specs.inside.Rule.{word_count, Fits, HasBounds, BoundsHold, IsSound}
-use Rattle.bound_table.specs.inside.Rule.{with_floor, opened, nobody, together, Looked}
-use Rattle.bound_table.specs.inside.Rule.{begun_words, words_of, HasWords, KeepsOwn}
+use Rattle.bound_table.specs.inside.Rule.{with_floor, nobody, together, Looked}
+use Rattle.bound_table.specs.inside.Rule.{words_of, HasWords, KeepsOwn}
 use Rattle.bound_table.specs.declared.seat.Begins.{Begins}
 use Rattle.bound_table.specs.declared.seat.Begins.TheVariants.{Shared, Own}
-use Rattle.bound_table.specs.Firm.{FirmView}
 use Rattle.pull_system.specs.Rows.{RowsView}
 use Rattle.bound_table.specs.inside.Rule.{IsMachineStep, Lifted}
 
@@ -36,14 +35,6 @@ set_both (x ∷ xs) (y ∷ ys) (suc i) m n within less size (suc j) = set_both x
 
 set_above : (xs : List ℕ) (i m : ℕ) → get_or xs i 0 ≤ m → (j : ℕ) → get_or xs j 0 ≤ get_or (set xs i m) j 0
 set_above xs i m more j = elim (set_case xs i m j 0) [ inl e ↦ omega (arith, e) | inr e ↦ omega (arith, e.1, ap (λ k. get_or xs k 0) e.0) ]
-
--- the floor of a view that fits lies between the starts and the least closed vectors
-fits_sound : (system : SystemView) (words : List ℕ) (v : SeenBounds) → AreBounds system words → Fits system words v → AreBounds system v.floor
-fits_sound system words v bounds fits = record {
-  size = fits.size ∙ bounds.size;
-  above = fits.above;
-  below = λ place. bound_less system place _ _ (fits.below.each place) (bounds.below place);
-}
 
 -- The word i becomes m, no less than it was and a bound, and the floor of the seat that steps says so.
 pub steps : (system : SystemView) (words : List ℕ) (views : List SeenBounds) (id : ℕ) (v : SeenBounds) (i m : ℕ) → HasBounds system words views → get_elem? views id ≡ some v → v.live ≡ true
@@ -188,24 +179,6 @@ meets begins system id other v w live_v live_w s kept here apart there = record 
       above = record { each = λ i. omega (arith, fits_v.above.each i, larger_case v.floor w.floor i) };
       below = record { each = λ i. omega (arith, fits_v.below.each i, fits_w.below.each i, larger_case v.floor w.floor i) };
     }
-
--- the table and its first seat begin by the rule
-pub starts_kept : (system : SystemView) (begins : Begins) (firm : FirmView) (words : List ℕ) → AreBounds system (begun_words begins) → words_of begins system.lens words ≡ begun_words begins
-    → BoundsHold begins system (opening words [] (opened system firm (begun_words begins)))
-starts_kept system begins firm words bounds whole =
-    let floor : List ℕ = begun_words begins in
-    let P : List ℕ → Type 0 = λ list. HasBounds system list (opened system firm floor ∷ []) in
-    subst P (sym whole) record { bounds = bounds; fits = λ j u at alive. first floor bounds j u at }
-  where
-    first : (floor : List ℕ) → AreBounds system floor → (j : ℕ) (u : SeenBounds) → get_elem? (opened system firm floor ∷ []) j ≡ some u → Fits system floor u
-    first floor bounds zero u at =
-        let P : SeenBounds → Type 0 = Fits system floor in
-        subst P (some-injective (opened system firm floor) u at) record { one_system = refl; size = refl; above = bounds.above; below = record { each = λ i. omega arith } }
-    first floor bounds (suc j) u at = absurd (some-ne-none u (sym at))
-
--- the words that a table begins with are all its words
-pub shared_whole : (system : SystemView) (floor : List ℕ) → AreBounds system floor → take (word_count system.lens) floor ≡ floor
-shared_whole system floor bounds = take_all (word_count system.lens) floor (omega (arith, bounds.size))
 
 -- a shape has a word
 pub some_words : (lens : List ℕ) → IsShape lens → 0 < word_count lens

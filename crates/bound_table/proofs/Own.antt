@@ -1,5 +1,5 @@
 -- Firm rows: what floors have reached stays reached, and a floor of own rows is those rows.
-use Rattle.std.proofs.Common.{◌≡◌, ℕ, zero, suc, ◌+◌, ◌/◌, ◌%◌, ◌<◌, ◌≤◌, inl, inr, true, false, List, [], ◌∷◌, length, get_or, set, sum, take, replicate, Option, Some, arith, refl, sym, ap, ◌∙◌, subst}
+use Rattle.std.proofs.Common.{◌≡◌, ℕ, zero, suc, ◌+◌, ◌/◌, ◌%◌, ◌<◌, ◌≤◌, inl, inr, true, List, [], ◌∷◌, length, get_or, set, sum, take, replicate, Option, Some, arith, refl, sym, ap, ◌∙◌, subst}
 use Rattle.std.proofs.lemmas.List.{ext_get_or, length-set}
 use Rattle.std.proofs.lemmas.List.Sums.{sum_by-cons}
 use Rattle.std.proofs.Math.Nat.{mul-le-mul_left, mod-lt}
@@ -50,9 +50,6 @@ none_final system floor finals size none = record {
   few = λ p. omega (arith, none p);
   each = λ p there. let P : ℕ → Type 0 = λ n. ReachesFirst system p n floor in subst P (sym (none p)) (first_none system p floor);
 }
-
-pub none_firm : (system : SystemView) (floor : List ℕ) (firm : FirmView) → length firm.firsts ≡ length system.lens → ((p : ℕ) → get_or firm.firsts p 0 ≡ 0) → firm.bottom ≡ false → HasReachedFirm system floor firm
-none_firm system floor firm size none no_bottom = record { firsts = none_final system floor firm.firsts size none; bottom = λ is. let e : true ≡ false = sym is ∙ no_bottom in absurd (cc) }
 
 -- ---- no firm rows
 

@@ -1,6 +1,6 @@
 //! The text of a made log, and the same with clocks left out.
 
-use event_log::write_log;
+use log_writing::write_log;
 use pota_base::NoMemory;
 use rand_core::utils::NextWord;
 use rand_pcg::Pcg32;

@@ -2,7 +2,7 @@
 use Rattle.std.proofs.Common.{◌≡◌, ℕ, zero, suc, ◌+◌, ◌<◌, ◌≤◌, List, [], ◌∷◌, ◌++◌, length, map, take, get_or, set, sum, refl, sym, ap, ◌∙◌, subst, arith, inl, inr, below_more, append_assoc, append-nil, length-append}
 use Rattle.std.specs.List.{AllByRecursion}
 use Rattle.std.proofs.lemmas.Bool.{cases_eq}
-use Rattle.std.proofs.lemmas.List.{length-set, length-map, get_or-set_same, get_or-set_other, take_all, take_more, take_at, ext_get_or}
+use Rattle.std.proofs.lemmas.List.{length-set, length-map, get_or-set_same, get_or-set_other, take_more, take_at, ext_get_or}
 use Rattle.std.proofs.lemmas.List.Sums.{sum_by-cons}
 use Rattle.event_log.specs.declared.log.Event.{Event}
 use Rattle.run_model.specs.Cut.{Cut, Clocks, lengths}
@@ -49,9 +49,6 @@ pub record CutBelow (shape : List ℕ) (old : Clocks) (i : ℕ) (now : Clocks) :
   pub count : length now ≡ length old
   pub below : (p : ℕ) → p < i → get_or now p [] ≡ take (get_or shape p 0) (get_or old p [])
   pub above : (p : ℕ) → i ≤ p → get_or now p [] ≡ get_or old p []
-
-pub cut_none : (shape : List ℕ) (old : Clocks) → CutBelow shape old 0 old
-cut_none shape old = record { count = refl; below = λ p h. absurd (omega arith); above = λ p h. refl }
 
 pub cut_more : (shape : List ℕ) (old now : Clocks) (i len : ℕ) → CutBelow shape old i now → i < length now → len ≡ get_or shape i 0
     → CutBelow shape old (i + 1) (set now i (take len (get_or now i [])))
@@ -125,9 +122,6 @@ so_far_more old now now' events i e h lt at there is = record {
       ∙ ap (with_clocks old) (ap (λ (x : Event). take i events ++ x ∷ []) at ∙ sym (take_more events i e lt));
   grown = subst (HasGrown old) (sym is) (grown_more old now e.process e.clock h.grown there);
 }
-
-pub so_far_all : (old now : Clocks) (events : List Event) (i : ℕ) → AddedSoFar old events i now → length events ≤ i → now ≡ with_clocks old events
-so_far_all old now events i h all = h.clocks ∙ ap (with_clocks old) (take_all i events all)
 
 pub event_fits : (procs : ℕ) (events : List Event) (i : ℕ) (e : Event) → AllByRecursion (HasClock procs) events → i < length events → e ≡ get_or events i e → HasClock procs e
 event_fits procs [] i e all lt at = absurd (omega arith)

@@ -1,7 +1,7 @@
 -- Consistent cuts by the clocks of the last events that they have.
 use Rattle.std.proofs.Common.{◌≡◌, ℕ, ◌+◌, ◌<◌, ◌≤◌, true, false, List, [], length, sum, map, replicate, zero, suc, refl, sym, ap, ◌∙◌, subst, arith, inl, inr}
 use Rattle.std.specs.Prelude.{◌↔◌}
-use Rattle.std.proofs.lemmas.Bool.{cases_eq, cases_lt}
+use Rattle.std.proofs.lemmas.Bool.{cases_lt}
 use Rattle.std.proofs.lemmas.List.{ext_get_or, length-replicate}
 use Rattle.std.proofs.lemmas.List.Sums.{sum_by-cons}
 use Rattle.pota_base.specs.Shape.{IsShape, HasEvent}
@@ -9,7 +9,7 @@ use Rattle.pota_base.specs.declared.shape.EventId.{EventId}
 use Rattle.run_model.specs.Cut.{Cut, Clocks, count, IsWithin, lengths, with_next}
 use Rattle.run_model.specs.Consistent.{IsEvent, IsOrder, IsConsistent, HappenedBefore, clock}
 use Rattle.run_model.specs.Sublattice.{IsLeast, Having}
-use Rattle.run_model.proofs.Counts.{count_past, with_next_same, with_next_other, with_next_above, within_trans, length-with_next}
+use Rattle.run_model.proofs.Counts.{count_past, with_next_same, with_next_other}
 use Rattle.run_model.proofs.Orders.{past_least}
 use Rattle.pota_base.specs.Limits.{most_events, most_processes}
 use Rattle.cut_lattice.proofs.Steps.{DoneBelow}
@@ -54,17 +54,6 @@ pub record HasLast (o : Clocks) (c : Cut) (k : ℕ) : Type 0 where
 pub has_none : (o : Clocks) (c : Cut) (k : ℕ) → count c k ≡ 0 → HasLast o c k
 has_none o c k none = record { there = omega arith; past = λ pos. absurd (omega arith) }
 
--- the count of the event's own process is the cut's
-pub has_last : (o : Clocks) (c : Cut) (k : ℕ) → IsOrder o → 0 < count c k → count c k ≤ count (lengths o) k
-    → ((j : ℕ) → (j ≡ k → ⊥) → count (clock o k (count c k)) j ≤ count c j) → HasLast o c k
-has_last o c k order some there others = record {
-  there = there;
-  past = λ pos j. elim (cases_eq j k) [
-    | inl e ↦ subst (λ (x : ℕ). count (clock o k (count c k)) x ≤ count c x) (sym e) (omega (arith, order.own k (count c k) (pos, there)))
-    | inr ne ↦ others j ne
-  ];
-}
-
 pub all_last : (o : Clocks) (c : Cut) (i : ℕ) → length c ≡ length o → ((k : ℕ) → k < i → HasLast o c k) → length o ≤ i → IsConsistent o c
 all_last o c i width h all = record {
   shaped = width;
@@ -78,38 +67,7 @@ all_last o c i width h all = record {
       | inr ge ↦ has_none o c k (count_past c k (omega arith))
     ]
 
-pub too_many : (o : Clocks) (c : Cut) (k : ℕ) → count (lengths o) k < count c k → IsConsistent o c → ⊥
-too_many o c k more h = omega (arith, h.within k)
-
-pub others_of_last : (o : Clocks) (c : Cut) (k : ℕ) → 0 < count c k → IsConsistent o c → (j : ℕ) → (j ≡ k → ⊥) → count (clock o k (count c k)) j ≤ count c j
-others_of_last o c k some h j ne = h.pasts k some j
-
 -- ---- the next event of a process
-
-pub next_consistent : (o : Clocks) (c : Cut) (p : ℕ) → IsOrder o → p < length o → IsConsistent o c → count c p < count (lengths o) p
-    → ((j : ℕ) → (j ≡ p → ⊥) → count (clock o p (count c p + 1)) j ≤ count c j) → IsConsistent o (with_next c p)
-next_consistent o c p order there h more others =
-    let lt : p < length c = omega (arith, h.shaped) in
-    let next = with_next_same c p lt in
-    record {
-      shaped = length-with_next c p ∙ h.shaped;
-      within = λ i. elim (cases_eq i p) [
-        | inl e ↦ subst (λ (x : ℕ). count (with_next c p) x ≤ count (lengths o) x) (sym e) (omega (arith, next))
-        | inr ne ↦ omega (arith, with_next_other c p i ne, h.within i)
-      ];
-      pasts = λ i pos. elim (cases_eq i p) [
-        | inl e ↦ subst (λ (x : ℕ). IsWithin (clock o x (count (with_next c p) x)) (with_next c p)) (sym e) (last lt)
-        | inr ne ↦ subst (λ (n : ℕ). IsWithin (clock o i n) (with_next c p)) (sym (with_next_other c p i ne))
-            (within_trans (clock o i (count c i)) c (with_next c p) (h.pasts i (omega (arith, with_next_other c p i ne))) (with_next_above c p lt))
-      ];
-    }
-  where
-    last : p < length c → IsWithin (clock o p (count (with_next c p) p)) (with_next c p)
-    last lt j = subst (λ (n : ℕ). count (clock o p n) j ≤ count (with_next c p) j) (sym (with_next_same c p lt)) (elim (cases_eq j p) [
-      | inl e ↦ subst (λ (x : ℕ). count (clock o p (count c p + 1)) x ≤ count (with_next c p) x) (sym e)
-          (omega (arith, order.own p (count c p + 1) (omega arith, omega arith), with_next_same c p lt))
-      | inr ne ↦ omega (arith, others j ne, with_next_other c p j ne)
-    ])
 
 pub next_others : (o : Clocks) (c : Cut) (p : ℕ) → p < length c → IsConsistent o (with_next c p) → (j : ℕ) → (j ≡ p → ⊥) → count (clock o p (count c p + 1)) j ≤ count c j
 next_others o c p lt h j ne =

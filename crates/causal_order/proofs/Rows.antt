@@ -1,7 +1,7 @@
 -- Rows of one width that stand one behind the other.
 use Rattle.std.proofs.Common.{◌≡◌, ℕ, zero, suc, ◌+◌, ◌-◌, ◌*◌, ◌<◌, ◌≤◌, List, [], ◌∷◌, ◌++◌, length, take, drop, get_or, refl, sym, ap, ◌∙◌, arith}
 use Rattle.std.proofs.Math.Nat.{mul-le-mul_right}
-use Rattle.std.proofs.lemmas.List.{take_all, take-take, length-drop, length-take, take-append-le, drop-append-le, drop-drop, drop-take}
+use Rattle.std.proofs.lemmas.List.{take_all, take-take, length-drop, take-append-le, drop-append-le, drop-drop, drop-take}
 use Rattle.run_model.specs.Cut.{Cut}
 use Rattle.causal_order.specs.Blocks.{BlockView, rows_of}
 
@@ -63,10 +63,6 @@ row_within width len p total h lt =
     let more : (p + 1) * width ≤ len * width = mul-le-mul_right width (omega arith) in
     omega arith
 
-pub len_within : (width len total : ℕ) → 1 ≤ width → total ≡ len * width → len ≤ total
-len_within (suc w) len total some h = omega arith
-len_within zero len total some h = absurd (omega arith)
-
 pub rows_within : (width len n total : ℕ) → total ≡ n * width → len ≤ n → len * width ≤ total
 rows_within width len n total h le =
     let more : len * width ≤ n * width = mul-le-mul_right width le in
@@ -78,11 +74,6 @@ pub row_is : (width len : ℕ) (counts : List ℕ) (b : BlockView) (p end : ℕ)
 row_is width len counts b p end is lt e =
     let size : end - p * width ≡ width = omega arith in
     ap (λ (k : ℕ). take k (drop (p * width) counts)) size ∙ sym (row_at width len p counts lt) ∙ ap (λ (x : BlockView). get_or x.rows p []) is
-
-pub row_width : (width p : ℕ) (counts : List ℕ) → p * width + width ≤ length counts → length (take (p * width + width - p * width) (drop (p * width) counts)) ≡ width
-row_width width p counts h =
-    let size : p * width + width - p * width ≡ width = omega arith in
-    length-take (p * width + width - p * width) (drop (p * width) counts) ∙ omega (arith, length-drop (p * width) counts)
 
 pub pushed : (width len : ℕ) (counts row : List ℕ) (b : BlockView) → view_of width len counts ≡ b → length counts ≡ len * width → length row ≡ b.width
     → view_of width (len + 1) (counts ++ row) ≡ record { width = b.width; rows = b.rows ++ row ∷ [] }

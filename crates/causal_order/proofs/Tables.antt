@@ -1,7 +1,6 @@
 -- Blocks of clocks, one for each process.
-use Rattle.std.proofs.Common.{◌≡◌, ℕ, zero, suc, ◌-◌, ◌<◌, ◌≤◌, List, [], ◌∷◌, ◌++◌, length, map, take, get_or, set, sum, replicate, refl, sym, ap, ◌∙◌, subst, arith, inl, inr}
-use Rattle.std.proofs.lemmas.Bool.{cases_eq}
-use Rattle.std.proofs.lemmas.List.{length-set, length-map, map-set, get_or-set_same, get_or-set_other, get_or-replicate, length-replicate, take_all}
+use Rattle.std.proofs.Common.{◌≡◌, ℕ, zero, suc, ◌-◌, ◌<◌, ◌≤◌, List, [], ◌∷◌, ◌++◌, length, map, take, get_or, set, sum, replicate, refl, sym, ap, ◌∙◌, arith}
+use Rattle.std.proofs.lemmas.List.{length-map, map-set, get_or-replicate, length-replicate, take_all}
 use Rattle.run_model.specs.Cut.{Cut, Clocks, lengths}
 use Rattle.run_model.specs.Consistent.{clock}
 use Rattle.pota_base.specs.Limits.{most_events}
@@ -42,15 +41,6 @@ clock_is o p (suc a) rows row some is at =
     let place : suc a - 1 ≡ a = omega arith in
     is ∙ ap (λ (rs : List Cut). get_or rs (suc a - 1) []) at ∙ ap (λ (k : ℕ). get_or (get_or o p []) k []) place
 
-pub still_wide : (bs : List BlockView) (p : ℕ) (b new : BlockView) → AreWide bs → p < length bs → b ≡ get_or bs p b → new.width ≡ b.width → AreWide (set bs p new)
-still_wide bs p b new wide lt at same q h =
-    let len = length-set bs p new in
-    elim (cases_eq q p) [
-      | inl e ↦ subst (λ (k : ℕ). (get_or (set bs p new) k no_rows).width ≡ length (set bs p new)) (sym e)
-          (ap (λ (x : BlockView). x.width) (get_or-set_same bs p new no_rows lt) ∙ same ∙ ap (λ (x : BlockView). x.width) (block_is bs p b lt at) ∙ wide p lt ∙ sym len)
-      | inr ne ↦ ap (λ (x : BlockView). x.width) (get_or-set_other bs p q new no_rows ne) ∙ wide q (omega (arith, len)) ∙ sym len
-    ]
-
 -- the rows of one process are others
 pub rows_set : (bs : List BlockView) (o : Clocks) (p : ℕ) (new : BlockView) (rows : List Cut) → clocks_in bs ≡ o → new.rows ≡ rows → clocks_in (set bs p new) ≡ set o p rows
 rows_set bs o p new rows is at =
@@ -65,16 +55,6 @@ pub rows_cut : (bs : List BlockView) (o : Clocks) (p len : ℕ) (b new : BlockVi
     → new ≡ record { width = b.width; rows = take len b.rows } → clocks_in (set bs p new) ≡ set o p (take len (get_or o p []))
 rows_cut bs o p len b new is lt at made =
     rows_set bs o p new _ is (ap (λ (x : BlockView). x.rows) made ∙ ap (take len) (block_rows bs o p b is lt at))
-
--- nothing is changed where the block is as before
-pub rows_same : (bs : List BlockView) (o : Clocks) (p : ℕ) (b new : BlockView) → clocks_in bs ≡ o → p < length o → b ≡ get_or bs p b → new ≡ b → clocks_in (set bs p new) ≡ o
-rows_same bs o p b new is lt at made =
-    rows_set bs o p new _ is (ap (λ (x : BlockView). x.rows) made ∙ block_rows bs o p b is lt at) ∙ unchanged o p
-  where
-    unchanged : (xs : Clocks) (q : ℕ) → set xs q (get_or xs q []) ≡ xs
-    unchanged [] q = refl
-    unchanged (x ∷ xs) zero = refl
-    unchanged (x ∷ xs) (suc q) = ap (λ (ys : Clocks). x ∷ ys) (unchanged xs q)
 
 -- ---- how many clocks each process has
 

@@ -19,9 +19,6 @@ pub record Numbered (seen : Observed) (old now : List Node) (asked : List Asked)
   pub nodes : now ≡ old ++ nodes_in_all seen (length old) (pieces ps)
   pub told : asked ≡ asked_by_all seen (length old) (pieces ps)
 
-pub numbered_none : (seen : Observed) (old : List Node) → Numbered seen old old [] []
-numbered_none seen old = record { nodes = sym (append-nil old); told = refl }
-
 count_more : (ps : List Piece) (p : Piece) (later : List Piece) → disjunct_count ps + nodes_of p ≤ disjunct_count (ps ++ p ∷ later)
 count_more [] p later = omega arith
 count_more (q ∷ ps) p later = omega (arith, count_more ps p later)
@@ -97,9 +94,6 @@ all_asked_more seen before (e ∷ ds) d =
     let next = before + disjunct_count e in
     ap (λ (list : List (List Asked)). asked_by_all seen before (pieces e) ∷ list)
     (all_asked_more seen next ds d ∙ ap (λ (n : ℕ). disjuncts_asked seen next ds ++ asked_by_all seen n (pieces d) ∷ []) (omega arith))
-
-pub planned_none : (seen : Observed) → Planned seen [] [] []
-planned_none seen = record { nodes = refl; told = refl }
 
 pub planned_more : (seen : Observed) (now next : List Node) (asked told : List (List Asked)) (one : List Asked) (ds : List (List Piece)) (d : List Piece) → Planned seen now asked ds
     → next ≡ now ++ nodes_in_all seen (length now) (pieces d) → one ≡ asked_by_all seen (length now) (pieces d) → told ≡ asked ++ one ∷ [] → Planned seen next told (ds ++ d ∷ [])

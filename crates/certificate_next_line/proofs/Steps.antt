@@ -7,7 +7,7 @@ use Rattle.slice_graph.specs.Views.{SliceView}
 use Rattle.certificate_lines.specs.declared.line.Line.{Line}
 use Rattle.certificate_lines.specs.declared.line.Line.TheVariants.{Node, Row, Raise, Verdict}
 use Rattle.certificate_table.specs.Begun.{BegunView, AreCertified, fresh_rows}
-use Rattle.certificate_raises.specs.Canonical.{AreDoubts, left_of, most_of}
+use Rattle.certificate_raises.specs.Canonical.{left_of, most_of}
 use Rattle.certificate_raises.proofs.Ending.{raise_leaves, row_leaves}
 use Rattle.certificate_raises.proofs.Following.{raise_follows}
 use Rattle.certificate_nodes.specs.declared.plan.Plan.{Plan}
@@ -18,7 +18,7 @@ use Rattle.certificate_nodes.proofs.Keeping.{given_after}
 use Rattle.certificate_canonical.specs.Canonical.{IsNext, IsNextRow, IsNextRaise}
 use Rattle.certificate_canonical.proofs.Following.{line_follows, row_may_begin}
 use Rattle.certificate_next_line.specs.Coming.{most_rows, rows_left, lines_left}
-use Rattle.certificate_next_line.specs.inside.Coming.{IsNextOfRows, with_line, AreDoubtsOf}
+use Rattle.certificate_next_line.specs.inside.Coming.{IsNextOfRows, with_line}
 
 -- ---- lines of rows
 
@@ -50,12 +50,6 @@ no_verdict v told h = no-rows v.present h
 -- the line is that of the rows that are present
 pub of_these : (there : Option BegunView) (rows : BegunView) (line : Line) → there ≡ Some rows → IsNextOfRows rows line → NextOfPresent there line
 of_these there rows line e h = subst (λ (p : Option BegunView). NextOfPresent p line) (sym e) h
-
--- and so are the doubts behind it
-pub doubts_behind : (there : Option BegunView) (rows : BegunView) (line : Line) (doubts : List Bool) → there ≡ Some rows → AreDoubts (with_line rows line) doubts
-    → AreDoubtsOf (Some doubts) (option_map (λ rows. with_line rows line) there)
-doubts_behind there rows line doubts e h =
-    subst (λ (p : Option BegunView). AreDoubtsOf (Some doubts) (option_map (λ rows. with_line rows line) p)) (sym e) h
 
 -- ---- fewer are left
 

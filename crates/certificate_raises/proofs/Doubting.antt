@@ -19,9 +19,6 @@ use Rattle.certificate_raises.specs.Canonical.{IsFirstFailing, AreDoubts}
 
 -- ---- all pulls are in doubt
 
-pub all_doubted : (v : BegunView) (doubts : List Bool) → length doubts ≡ length v.system.pulls → ((k : ℕ) → get_or doubts k true ≡ true) → AreDoubts v doubts
-all_doubted v doubts size on = record { count = size; each = λ k there off. absurd (false≢true (sym off ∙ on k)) }
-
 -- no more are marked than there are
 pub marked_most : (doubts : List Bool) → marked doubts ≤ length doubts
 marked_most [] = omega arith

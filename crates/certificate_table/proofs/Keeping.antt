@@ -60,11 +60,6 @@ entry_there v is row k x there reached =
 pub word_small : (v : BegunView) → AreCertified v → (row process : ℕ) → process < length v.system.lens → word_at v.system.lens v.words row process < 2 ^ 16
 word_small v is row process there = omega (arith, word_in_range v.system is.system v.words is.bounds row process there, component_le v.system.lens process, is.system.shape.events)
 
-pub ask_small : (v : BegunView) → AreCertified v → (k x : ℕ) → k < length v.system.pulls → ask v.system k x < 2 ^ 16
-ask_small v is k x there =
-    let p : IsPull v.system.lens (pull_at v.system k) = pull-of v.system is.system k there in
-    omega (arith, p.table.within x, component_le v.system.lens (target_of v.system k), is.system.shape.events)
-
 -- ---- the rows at their starts, one begun and one raised
 
 pub fresh_certified : (system : SystemView) → IsSystem system → AreCertified (fresh_rows system)

@@ -19,9 +19,6 @@ pub record CountedSoFar (which : Counted) (events : List Event) (i count : ℕ) 
   pub told : counts ≡ map (count_of which events) (range_with_len 0 (i + 1))
   pub last : count ≡ count_of which events i
 
-pub counted_none : (which : Counted) (events : List Event) → CountedSoFar which events 0 0 (0 ∷ [])
-counted_none which events = record { told = refl; last = refl }
-
 one_more : (which : Counted) (events : List Event) (i : ℕ) (e : Event) (yes_ : Bool) → i < length events → is_counted which (get_or events i e).kind ≡ yes_
     → count_of which events (i + 1) ≡ (if yes_ then count_of which events i + 1 else count_of which events i)
 one_more which events i e true there has = count_by_more_yes (λ (x : Event). is_counted which x.kind) events i e there has

@@ -1,5 +1,5 @@
 -- Where counts reach a bound.
-use Rattle.std.proofs.Common.{◌≡◌, ℕ, zero, suc, ◌+◌, ◌-◌, ◌<◌, ◌≤◌, min, Bool, true, false, List, [], ◌∷◌, ◌++◌, length, map, get_or, inl, inr, refl, ap, sym, ◌∙◌, arith}
+use Rattle.std.proofs.Common.{◌≡◌, ℕ, zero, suc, ◌+◌, ◌-◌, ◌<◌, ◌≤◌, min, Bool, true, false, List, [], ◌∷◌, ◌++◌, length, map, get_or, inl, inr, ap, sym, ◌∙◌, arith}
 use Rattle.std.specs.Prelude.{nat_le}
 use Rattle.std.specs.List.{range_with_len}
 use Rattle.std.proofs.lemmas.Bool.{le-leb, lt-leb, leb-true, leb-false}
@@ -36,9 +36,6 @@ pub record PlacedSoFar (leads : List ℕ) (more : ℕ) (follows : List ℕ) (ext
   pub within : place ≤ length follows
   pub last : 0 < i → place ≡ entry leads more follows extra (i - 1)
   pub none : (x y : ℕ) → i ≤ x → x < length leads → y < place → get_or follows y 0 + extra < get_or leads x 0 + more
-
-pub placed_none : (leads : List ℕ) (more : ℕ) (follows : List ℕ) (extra : ℕ) → PlacedSoFar leads more follows extra 0 0 []
-placed_none leads more follows extra = record { told = refl; within = omega arith; last = λ h. absurd (omega arith); none = λ x y h there lt. absurd (omega arith) }
 
 pub placed_more : (leads : List ℕ) (more : ℕ) (follows : List ℕ) (extra i place : ℕ) (table : List ℕ) → AreCounts leads → i < length leads → PlacedSoFar leads more follows extra i place table
     → (next : ℕ) → next ≡ first_reaching follows extra (get_or leads i 0 + more) → PlacedSoFar leads more follows extra (i + 1) next (table ++ next ∷ [])

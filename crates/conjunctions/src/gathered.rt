@@ -126,8 +126,9 @@ impl Gathered {
         Ok(())
     }
 
-    /// Puts the pulls of an operator's slice behind the others, and keeps the rows of the first such
-    /// slice. Where nothing was asked before, the slice asks alone, and they are kept in 16 bits.
+    /// Puts the pulls of an operator's slice behind the others, and keeps the rows of the first
+    /// such slice. Where nothing was asked before, the slice asks alone, and they are kept in 16
+    /// bits.
     pub fn add_slice(&mut self, alloc: Global, slice: &Slice) -> Result<(), NoMemory>
         ensures order { self.new.order ≡ self.old.order }
         ensures pulls { OnOk result (self.new.pulls ≡ self.old.pulls ++ pulls_of_slice slice.now) }

@@ -60,9 +60,6 @@ pub record FirstSoFar (states : StatesView) (batch : List Event) (counters : Lis
   pub before : (k : ℕ) → k < first → some_falls_at states batch (take i counters) k ≡ false
   pub falls : first < length batch → some_falls_at states batch (take i counters) first ≡ true
 
-pub first_none : (states : StatesView) (batch : List Event) (counters : List Variable) → FirstSoFar states batch counters 0 (length batch)
-first_none states batch counters = record { within = omega arith; before = λ k lt. refl; falls = λ lt. absurd (omega (arith, lt)) }
-
 one_more : (states : StatesView) (batch : List Event) (counters : List Variable) (i : ℕ) (d : Variable) → i < length counters → (k : ℕ)
     → some_falls_at states batch (take (i + 1) counters) k ≡ (some_falls_at states batch (take i counters) k || (falls_at states batch (get_or counters i d) k || false))
 one_more states batch counters i d there k =

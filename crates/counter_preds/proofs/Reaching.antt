@@ -1,5 +1,5 @@
 -- Where values reach a bound.
-use Rattle.std.proofs.Common.{◌≡◌, ℕ, ◌+◌, ◌-◌, ◌<◌, ◌≤◌, min, Bool, ℤ, ◌+ℤ◌, ◌≤ℤ◌, ◌<ℤ◌, int_le, List, [], ◌∷◌, ◌++◌, length, map, refl, ap, sym, ◌∙◌, arith}
+use Rattle.std.proofs.Common.{◌≡◌, ℕ, ◌+◌, ◌-◌, ◌<◌, ◌≤◌, min, Bool, ℤ, ◌+ℤ◌, ◌≤ℤ◌, ◌<ℤ◌, int_le, List, [], ◌∷◌, ◌++◌, length, map, ap, sym, ◌∙◌, arith}
 use Rattle.std.proofs.lemmas.Int.{ints}
 use Rattle.std.specs.List.{range_with_len}
 use Rattle.std.proofs.lemmas.List.FromFn.{map-range_with_len_more}
@@ -34,9 +34,6 @@ pub record PlacedSoFar (leads : List ℤ) (more : ℤ) (follows : List ℤ) (ext
   pub within : place ≤ length follows
   pub last : 0 < i → place ≡ entry leads more follows extra (i - 1)
   pub none : (x y : ℕ) → i ≤ x → x < length leads → y < place → (value_at follows y +ℤ extra) <ℤ (value_at leads x +ℤ more)
-
-pub placed_none : (leads : List ℤ) (more : ℤ) (follows : List ℤ) (extra : ℤ) → PlacedSoFar leads more follows extra 0 0 []
-placed_none leads more follows extra = record { told = refl; within = omega arith; last = λ h. absurd (omega arith); none = λ x y h there lt. absurd (omega arith) }
 
 pub placed_more : (leads : List ℤ) (more : ℤ) (follows : List ℤ) (extra : ℤ) (i place : ℕ) (table : List ℕ) → AreRising leads → i < length leads → PlacedSoFar leads more follows extra i place table
     → (next : ℕ) → next ≡ first_reaching follows extra (value_at leads i +ℤ more) → PlacedSoFar leads more follows extra (i + 1) next (table ++ next ∷ [])

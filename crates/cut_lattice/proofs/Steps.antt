@@ -1,5 +1,5 @@
 -- Going over the processes of two cuts in order.
-use Rattle.std.proofs.Common.{◌≡◌, ℕ, ◌+◌, ◌<◌, ◌≤◌, ◌≢◌, min, max, List, length, set, arith, inl, inr, refl, sym, ◌∙◌, ap, get_or, get_or-set_same, get_or-set_other, below_more, length-set}
+use Rattle.std.proofs.Common.{◌≡◌, ℕ, ◌+◌, ◌<◌, ◌≤◌, ◌≢◌, min, max, List, length, arith, inl, inr, refl, sym, ◌∙◌, get_or}
 use Rattle.std.proofs.lemmas.List.{ext_get_or}
 use Rattle.std.proofs.lemmas.Bool.{cases_lt}
 use Rattle.run_model.specs.Cut.{Cut, count, IsWithin, min_cut, max_cut}
@@ -13,16 +13,6 @@ pub record DoneBelow (f : ℕ → ℕ → ℕ) (c d e : Cut) (i : ℕ) : Type 0 
 
 pub done_none : (f : ℕ → ℕ → ℕ) (c d : Cut) → DoneBelow f c d d 0
 done_none f c d = record { len = refl; below = λ k h. absurd (omega arith); above = λ k h. refl }
-
--- one process more
-pub done_more : (f : ℕ → ℕ → ℕ) (c d e : Cut) (i v : ℕ) → DoneBelow f c d e i → i < length e → v ≡ f (count c i) (count e i)
-    → DoneBelow f c d (set e i v) (i + 1)
-done_more f c d e i v h there value = record {
-  len = length-set e i v ∙ h.len;
-  below = below_more _ _ (λ k lt. let ne : k ≢ i = omega arith in rw get_or-set_other (h.below k lt))
-      (rw get_or-set_same (value ∙ ap (f (count c i)) (h.above i (omega arith))));
-  above = λ k le. let ne : k ≢ i = omega arith in rw get_or-set_other (h.above k (omega arith));
-}
 
 pub done_min : (c d e : Cut) (i : ℕ) → DoneBelow min c d e i → length d ≡ length c → length c ≤ i → e ≡ min_cut c d
 done_min c d e i h same all = ext_get_or 0 e (min_cut c d) (omega (arith, h.len, length-min c d))

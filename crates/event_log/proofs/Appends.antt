@@ -1,18 +1,17 @@
 -- The spelling of a list with one more behind it.
-use Rattle.std.proofs.Common.{◌≡◌, ℕ, ◌+◌, ◌<◌, List, [], ◌∷◌, ◌++◌, length, take, drop, refl, sym, ap, ◌∙◌, append_assoc, arith}
+use Rattle.std.proofs.Common.{◌≡◌, ℕ, ◌+◌, ◌<◌, List, [], ◌∷◌, ◌++◌, length, take, refl, sym, ap, ◌∙◌, append_assoc, arith}
 use Rattle.std.specs.Prelude.{slice_index_or}
-use Rattle.std.proofs.lemmas.List.{append-nil, take_more, drop_more, map-append, get_or_default}
+use Rattle.std.proofs.lemmas.List.{append-nil, take_more, map-append, get_or_default}
 use Rattle.std.specs.Fmt.{decimal, signed_decimal}
 use Rattle.log_lines.specs.Names.{Name}
-use Rattle.log_lines.specs.Spelling.{NamedValue, names_text, values_text, clock_rest, vars_line, event_line}
+use Rattle.log_lines.specs.Spelling.{NamedValue, names_text, values_text, clock_rest, event_line}
 use Rattle.event_log.specs.declared.log.Binding.{Binding}
 use Rattle.event_log.specs.declared.log.Assign.{Assign}
 use Rattle.event_log.specs.declared.log.Header.{Header}
 use Rattle.event_log.specs.declared.log.Event.{Event}
-use Rattle.std.specs.List.{AllByRecursion}
 use Rattle.event_log.specs.declared.log.Log.{Log}
 use Rattle.event_log.specs.Before.{Line, heading_of}
-use Rattle.event_log.specs.LogText.{values_of, named, named_values, line_of, vars_lines, event_lines, closing_line, batch_lines, text_of, log_text, EventFits, EventsFit, BatchesFit}
+use Rattle.event_log.specs.LogText.{values_of, named, named_values, line_of, vars_lines, event_lines, closing_line, batch_lines, text_of, log_text}
 
 pub names_text-append : (xs ys : List Name) → names_text (xs ++ ys) ≡ names_text xs ++ names_text ys
 names_text-append [] ys = refl
@@ -59,14 +58,6 @@ puts_next_at {A} spell append old out new xs i d lt so_far put = puts_next spell
 pub clock_put : (out middle new : List ℕ) (n : ℕ) → middle ≡ out ++ 44 ∷ [] → new ≡ middle ++ decimal n → new ≡ out ++ clock_rest (n ∷ [])
 clock_put out middle new n comma number = number ∙ ap (λ (t : List ℕ). t ++ decimal n) comma ∙ append_assoc out (44 ∷ []) (decimal n) ∙ ap (λ (t : List ℕ). out ++ 44 ∷ t) (sym (append-nil (decimal n)))
 
-pub batches_each : (h : Header) (line : ℕ) (bs : List (List Event)) → BatchesFit h line bs → AllByRecursion (AllByRecursion (EventFits h)) bs
-batches_each h line [] fits = tt
-batches_each h line (b ∷ rest) fits = (each line b fits.0, batches_each h (line + length b + 1) rest fits.1)
-  where
-    each : (line : ℕ) (es : List Event) → EventsFit h line es → AllByRecursion (EventFits h) es
-    each line [] fits = tt
-    each line (e ∷ es) fits = (fits.0.0, each (line + 1) es fits.1)
-
 pub log_put : (log : Log) (t1 t2 t3 t4 t5 : List ℕ) → t1 ≡ heading_of log.header.version ++ 10 ∷ 112 ∷ 114 ∷ 111 ∷ 99 ∷ 115 ∷ [] → t2 ≡ t1 ++ names_text log.header.procs → t3 ≡ t2 ++ 10 ∷ [] → t4 ≡ t3 ++ text_of (vars_lines log.header.procs log.header.vars)
     → t5 ≡ t4 ++ text_of (batch_lines log.header log.batches) → t5 ≡ log_text log
 log_put log t1 t2 t3 t4 t5 a b c d e =
@@ -86,11 +77,3 @@ batch_put h old out t1 t2 b after rest is so_far one two =
     put ∙ ap (λ (t : List ℕ). out ++ t) (sym split) ∙ ap (λ (bs : List (List Event)). out ++ text_of (batch_lines h bs)) (sym is) ∙ so_far
 
 -- ---- variables
-
-pub vars_put : (procs : List Name) (vars : List (List Binding)) (i : ℕ) (p : Name) (v : List Binding) → i < length procs → length vars ≡ length procs → p ≡ slice_index_or procs i p → v ≡ slice_index_or vars i v
-    → text_of (vars_lines (drop i procs) (drop i vars)) ≡ text_of (vars_lines (p ∷ []) (v ∷ [])) ++ text_of (vars_lines (drop (i + 1) procs) (drop (i + 1) vars))
-vars_put procs vars i p v lt same p_is v_is = rw (drop_more procs i p lt, drop_more vars i v (omega arith), ← p_is, ← v_is) (one p v (drop (i + 1) procs) (drop (i + 1) vars))
-  where
-    one : (p : Name) (v : List Binding) (ps : List Name) (vs : List (List Binding)) → text_of (vars_lines (p ∷ ps) (v ∷ vs)) ≡ text_of (vars_lines (p ∷ []) (v ∷ [])) ++ text_of (vars_lines ps vs)
-    one p [] ps vs = refl
-    one p (b ∷ bs) ps vs = sym (append_assoc (vars_line (record { process = p; variables = values_of (b ∷ bs) })) (10 ∷ []) (text_of (vars_lines ps vs)))

@@ -1,7 +1,7 @@
 -- How many events of a batch each process has.
 use Rattle.std.proofs.Common.{◌≡◌, ℕ, zero, suc, ◌+◌, ◌<◌, ◌≤◌, List, [], ◌∷◌, ◌++◌, length, map, take, get_or, set, sum, replicate, refl, sym, ap, ◌∙◌, subst, arith, length-append}
 use Rattle.std.specs.List.{AllByRecursion}
-use Rattle.std.proofs.lemmas.List.{take_more, take_all, length-take}
+use Rattle.std.proofs.lemmas.List.{take_more, length-take}
 use Rattle.pota_base.specs.Limits.{most_processes}
 use Rattle.event_log.specs.declared.log.Event.{Event}
 use Rattle.event_log.specs.States.{HistoryView, with_batch}
@@ -35,9 +35,6 @@ count_few batch i p counts h =
     let all : get_or (counts_of (take i batch)) p 0 ≤ sum (counts_of (take i batch)) = item_le_sum (counts_of (take i batch)) p in
     let none : sum (map (length {A = Event}) (replicate most_processes [])) ≡ 0 = refl in
     omega (arith, ap (λ (cs : List ℕ). get_or cs p 0) h, all, sum_batch (replicate most_processes []) (take i batch), none, length-take i batch)
-
-pub counts_all : (batch : List Event) (i : ℕ) (counts : List ℕ) → counts ≡ counts_of (take i batch) → length batch ≤ i → counts ≡ counts_of batch
-counts_all batch i counts h all = h ∙ ap counts_of (take_all i batch all)
 
 pub process_within : (procs : ℕ) (batch : List Event) (i : ℕ) (e : Event) → AllByRecursion (λ (x : Event). x.process < procs) batch → i < length batch → e ≡ get_or batch i e → e.process < procs
 process_within procs [] i e all lt at = absurd (omega arith)

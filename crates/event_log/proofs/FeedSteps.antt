@@ -85,9 +85,6 @@ quiet_takes f new bytes plain can gains past has = taken_passed f new bytes past
 
 -- ---- one after the other
 
-pub none_taken : (f : Feeder) → TakesPlain f [] None f
-none_taken f past has = record { fault_is = sym has.counts.fault_is; items_are = refl; feeds = λ _. has }
-
 pub then_plain : (a b c : Feeder) (xs ys : List ℕ) (o : Option LogFault) → TakesPlain a xs None b → TakesPlain b ys o c → TakesPlain a (xs ++ ys) o c
 then_plain a b c xs ys o first second past has =
     let p = first past has in
@@ -188,9 +185,6 @@ pub record HasReadTo (now : Feeder) (piece rest : List ℕ) (given : List Item) 
 
 abbrev pub ReadsTo : Feeder → Feeder → List ℕ → List ℕ → List Item → Type 0
 ReadsTo old now piece rest given = (past : Past) → HasFed old past → HasReadTo now piece rest given past
-
-pub piece_starts : (f : Feeder) (piece : List ℕ) → ReadsTo f f piece piece []
-piece_starts f piece past has = record { at = past; fed = has; leads = record { upto_is = refl; behind_is = refl }; items_are = sym (append-nil (items past)) }
 
 -- what the feeder knows of the end of the log
 abbrev pub KnowsEnd : Feeder → Bool → Type 0

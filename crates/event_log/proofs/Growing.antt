@@ -78,12 +78,3 @@ grown_fits shape before old grown lens p = elim (cases_lt p (length before)) [
       let none : get_or shape p 0 ≡ 0 = get_or_past shape p 0 (omega (arith, ap length lens, length-map before (λ (h : HistoryView). length h.events))) in
       omega (arith, none)
 ]
-
--- an item that is read by its place
-pub item_is : (hs : List HistoryView) (i : ℕ) (h : HistoryView) → i < length hs → h ≡ get_or hs i h → h ≡ get_or hs i nothing
-item_is hs i h lt is = is ∙ default_free hs i h nothing lt
-  where
-    default_free : (xs : List HistoryView) (j : ℕ) (d e : HistoryView) → j < length xs → get_or xs j d ≡ get_or xs j e
-    default_free [] j d e k = absurd (omega arith)
-    default_free (x ∷ xs) zero d e k = refl
-    default_free (x ∷ xs) (suc j) d e k = default_free xs j d e (omega arith)

@@ -1,11 +1,11 @@
 -- The rows of a history: one state after the other, all of one width.
 use Rattle.std.proofs.Common.{◌≡◌, ℕ, zero, suc, ◌+◌, ◌-◌, ◌*◌, ◌<◌, ◌≤◌, List, [], ◌∷◌, ◌++◌, length, map, take, drop, get_or, set, refl, sym, ap, ◌∙◌, subst, arith, append_assoc, append-nil, mul-le-mul_right, length-append}
 use Rattle.std.specs.Prelude.{ℤ, pos, Result, Ok, Err, OnOk, OnErr, is_ok, is_err, true, false, if◌then◌else◌}
-use Rattle.std.proofs.lemmas.List.{length-set, length-map, take_all, take-take, take-map, take-append-le, take_more, length-drop, get_or-drop, map_push, take_at, get_or_append_left, get_or-append-add}
+use Rattle.std.proofs.lemmas.List.{length-set, length-map, take_all, take-append-le, take_more, length-drop, get_or-drop, map_push, take_at, get_or_append_left, get_or-append-add}
 use Rattle.std.proofs.Math.Seq.{drop-append-add, take-append-add}
 use Rattle.run_model.specs.Run.{Assignment, Event, assigned, state_from, states_from}
 use Rattle.event_log.specs.declared.log.Event as logged
-use Rattle.event_log.specs.States.{HistoryView, joined, IsHistory, event_of, assignment_of}
+use Rattle.event_log.specs.States.{joined, IsHistory, event_of, assignment_of}
 use Rattle.event_log.specs.declared.log.Binding.{Binding}
 use Rattle.event_log.specs.declared.log.Assign.{Assign}
 use Rattle.std.specs.List.{AllByRecursion}
@@ -23,12 +23,6 @@ length-joined state (e ∷ es) =
     let more : length (joined (states_from next es)) ≡ (length es + 1) * length state =
     length-joined next es ∙ ap (λ (w : ℕ). (length es + 1) * w) (length-assigned state e.assigns) in
     length-append state (joined (states_from next es)) ∙ omega (arith, more)
-
--- the first row is the opening state
-pub front_row : (state : List ℤ) (es : List Event) → take (length state) (joined (states_from state es)) ≡ state
-unfolding states_from
-front_row state [] = take_at state [] (length state) refl
-front_row state (e ∷ es) = take_at state _ (length state) refl
 
 -- the last row is the state after all events
 pub last_row : (state : List ℤ) (es : List Event) → drop (length es * length state) (joined (states_from state es)) ≡ state_from state es
@@ -128,11 +122,6 @@ pub record CopiedSoFar (old : List ℤ) (width i : ℕ) (values : List ℤ) : Ty
   pub upto : i ≤ length old
   pub copied : values ≡ old ++ take (i - (length old - width)) (drop (length old - width) old)
 
-pub copied_none : (old : List ℤ) (width : ℕ) → width ≤ length old → CopiedSoFar old width (length old - width) old
-copied_none old width h =
-    let none : length old - width - (length old - width) ≡ 0 = omega arith in
-    record { wide = h; from = omega arith; upto = omega arith; copied = rw none (sym (append-nil old)) }
-
 pub copied_more : (old values : List ℤ) (width i : ℕ) (v : ℤ) → CopiedSoFar old width i values → i < length old → v ≡ get_or values i v
     → CopiedSoFar old width (i + 1) (values ++ v ∷ [])
 copied_more old values width i v h lt is =
@@ -210,23 +199,6 @@ history_push w vs vs' es e h more =
       opening = front;
     }
 
-pub record Kept (w k : ℕ) (vs vs' : List ℤ) (es : List logged.Event) : Type 0 where
-  pub history : IsHistory w vs' (take k es)
-  pub opening : take w vs' ≡ take w vs
-
-pub history_kept : (w k : ℕ) (vs : List ℤ) (es : List logged.Event) → IsHistory w vs es → k ≤ length es → Kept w k vs (take ((k + 1) * w) vs) es
-history_kept w k vs es h le =
-    let opening = take w vs in
-    let front : take w (take ((k + 1) * w) vs) ≡ opening = take-take w ((k + 1) * w) vs (omega arith) in
-    let fits : k ≤ length (map event_of es) = omega (arith, length-map es event_of) in
-    let rows : take ((k + 1) * w) vs ≡ joined (states_from opening (map event_of (take k es))) =
-    ap (λ (n : ℕ). take ((k + 1) * n) vs) (sym h.wide) ∙ ap (take ((k + 1) * length opening)) h.rows ∙ first_rows opening (map event_of es) k fits
-    ∙ ap (λ (xs : List Event). joined (states_from opening xs)) (take-map event_of k es) in
-    record {
-      history = record { wide = ap length front ∙ h.wide; rows = rows ∙ ap (λ (o : List ℤ). joined (states_from o (map event_of (take k es)))) (sym front) };
-      opening = front;
-    }
-
 pub record ValueThere (w : ℕ) (vs : List ℤ) (es : List logged.Event) (a v : ℕ) : Type 0 where
   pub within : a * w + v < length vs
   pub value : get_or vs (a * w + v) (pos 0) ≡ get_or (get_or (states_from (take w vs) (map event_of es)) a []) v (pos 0)
@@ -258,12 +230,6 @@ history_state w vs es a h le =
     }
 
 -- ---- as the code's values say it
-
-pub same_history : (o o' : List ℤ) (es es' : List logged.Event) → o ≡ o' → es ≡ es'
-    → ◌≡◌ {A = HistoryView} (record { opening = o; events = es }) (record { opening = o'; events = es' })
-same_history o o' es es' p q =
-    ap (λ (x : List ℤ). let h : HistoryView = record { opening = x; events = es } in h) p
-    ∙ ap (λ (x : List logged.Event). let h : HistoryView = record { opening = o'; events = x } in h) q
 
 pub opening_values : (bindings : List Binding) (vs : List ℤ) (i : ℕ) → vs ≡ map (λ (b : Binding). b.value) (take i bindings) → length bindings ≤ i
     → vs ≡ map (λ (b : Binding). b.value) bindings

@@ -3,7 +3,7 @@ use Rattle.std.proofs.Common.{◌≡◌, ℕ, zero, suc, ◌+◌, ◌<◌, ◌�
 use Rattle.std.specs.Prelude.{ℤ, pos}
 use Rattle.std.specs.List.{AllByRecursion}
 use Rattle.std.proofs.lemmas.List.Sums.{sum_by-cons}
-use Rattle.std.proofs.lemmas.List.{length-map, get_or-map, take_all, take_more, map_push, ext_get_or}
+use Rattle.std.proofs.lemmas.List.{length-map, get_or-map, ext_get_or}
 use Rattle.pota_base.specs.Shape.{IsShape}
 use Rattle.event_log.specs.declared.log.Event.{Event}
 use Rattle.event_log.specs.declared.log.Binding.{Binding}
@@ -69,15 +69,6 @@ lens_shape hs shape is same few = record {
   few = omega (arith, length-map hs (λ (x : HistoryView). length x.events), is.few);
   events = few;
 }
-
--- one length more
-pub lens_more : (hs : List HistoryView) (i n : ℕ) (lens : List ℕ) → lens ≡ lens_in (take i hs) → i < length hs → n ≡ length (get_or hs i nothing).events → lens ++ n ∷ [] ≡ lens_in (take (i + 1) hs)
-lens_more hs i n lens is lt len =
-    ap (λ (l : List ℕ). l ++ n ∷ []) is ∙ ap (λ (m : ℕ). lens_in (take i hs) ++ m ∷ []) len
-    ∙ sym (ap lens_in (take_more hs i nothing lt) ∙ map_push (λ (h : HistoryView). length h.events) (take i hs) (get_or hs i nothing))
-
-pub lens_all : (hs : List HistoryView) (i : ℕ) (lens : List ℕ) → lens ≡ lens_in (take i hs) → length hs ≤ i → lens ≡ lens_in hs
-lens_all hs i lens is all = is ∙ ap lens_in (take_all i hs all)
 
 -- ---- without events
 

@@ -89,12 +89,6 @@ variables_are s i vars events lt =
     let process = process_is s.header.procs s.header.vars s.events i (omega (arith, events)) (omega (arith, events, vars)) lt in
     ap (λ (p : run.Process). map (λ (x : run.Variable). x.name) p.variables) process ∙ names_of_variables (get_or s.header.vars i [])
 
--- the process of a name, by its place in the header
-pub process_named : (s : StatesView) (i : ℕ) (name : Name) (watches : run.Watches) → length s.header.vars ≡ length s.header.procs → length s.events ≡ length s.header.procs
-    → place_of s.header.procs name ≡ Some i → (run.run_of (trace_of s) watches).process name ≡ i
-process_named s i name watches vars events there =
-    ap (run.number_of name) (names_are s vars events) ∙ place_is s.header.procs name i there
-
 -- the value of the variable of a name, by its place among the variables of its process
 pub value_named : (s : StatesView) (i a v : ℕ) (name : Name) → length s.header.vars ≡ length s.header.procs → length s.events ≡ length s.header.procs → i < length s.events
     → place_of (binding_names (variables_at s.header.vars i)) name ≡ Some v

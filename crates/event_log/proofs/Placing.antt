@@ -1,9 +1,9 @@
 -- The events of all processes in one list, and the histories that say by places which are whose.
-use Rattle.std.proofs.Common.{◌≡◌, ℕ, zero, suc, ◌+◌, ◌-◌, ◌*◌, ◌<◌, ◌≤◌, List, [], ◌∷◌, ◌++◌, length, map, take, drop, get_or, set, sum, refl, sym, ap, ◌∙◌, subst, arith, append_assoc, append-nil, mul-le-mul_right, length-append, inl, inr, below_more, reverse}
+use Rattle.std.proofs.Common.{◌≡◌, ℕ, zero, suc, ◌+◌, ◌-◌, ◌*◌, ◌<◌, ◌≤◌, List, [], ◌∷◌, ◌++◌, length, map, take, drop, get_or, set, sum, refl, sym, ap, ◌∙◌, subst, arith, append_assoc, append-nil, length-append, inl, inr, below_more, reverse}
 use Rattle.std.specs.Prelude.{ℤ}
 use Rattle.std.specs.List.{AllByRecursion}
 use Rattle.std.proofs.lemmas.Bool.{cases_eq, cases_lt}
-use Rattle.std.proofs.lemmas.List.{length-set, length-map, get_or-set_same, get_or-set_other, get_or-map, get_or_append_left, get_or-append-add, take_all, take-append-le, take_more, ext_get_or, map_push, reverse-append, get_or_default, length-take-le, length-drop}
+use Rattle.std.proofs.lemmas.List.{length-set, length-map, get_or-set_same, get_or-set_other, get_or-map, get_or_append_left, get_or-append-add, take_all, take-append-le, take_more, ext_get_or, map_push, get_or_default, length-take-le, length-drop}
 use Rattle.std.proofs.lemmas.List.Sums.{sum_by-cons, sum_by-set}
 use Rattle.run_model.specs.Run.{Assignment, assigned}
 use Rattle.event_log.specs.declared.log.Assign.{Assign}
@@ -18,26 +18,11 @@ use Rattle.event_log.proofs.Lists.{all_push}
 
 -- ---- rows of one width
 
-pub value_within : (w : ℕ) (places : List ℕ) (vs : List ℤ) (a v : ℕ) → HasRows w places vs → a ≤ length places → v < w → a * w + v < length vs
-value_within w places vs a v h le lt =
-    let more : (a + 1) * w ≤ (length places + 1) * w = mul-le-mul_right w (omega arith) in
-    omega (arith, more, h)
-
-pub state_within : (w : ℕ) (places : List ℕ) (vs : List ℤ) (a : ℕ) → HasRows w places vs → a ≤ length places → a * w + w ≤ length vs
-state_within w places vs a h le =
-    let more : (a + 1) * w ≤ (length places + 1) * w = mul-le-mul_right w (omega arith) in
-    omega (arith, more, h)
-
 pub rows_more : (w place : ℕ) (places : List ℕ) (vs : List ℤ) (as_ : List Assignment) → HasRows w places vs → HasRows w (places ++ place ∷ []) (vs ++ assigned (drop (length vs - w) vs) as_)
 rows_more w place places vs as_ h =
     let row : length (assigned (drop (length vs - w) vs) as_) ≡ length vs - (length vs - w) = length-assigned (drop (length vs - w) vs) as_ ∙ length-drop (length vs - w) vs in
     let more : (length (places ++ place ∷ []) + 1) * w ≡ (length places + 1) * w + w = ap (λ (n : ℕ). (n + 1) * w) (length-append places (place ∷ [])) ∙ omega arith in
     omega (arith, h, more, row, length-append vs (assigned (drop (length vs - w) vs) as_))
-
-pub rows_cut : (w len : ℕ) (places : List ℕ) (vs : List ℤ) → HasRows w places vs → len ≤ length places → HasRows w (take len places) (take ((len + 1) * w) vs)
-rows_cut w len places vs h le =
-    let fits : (len + 1) * w ≤ (length places + 1) * w = mul-le-mul_right w (omega arith) in
-    length-take-le ((len + 1) * w) vs (omega (arith, fits, h)) ∙ ap (λ (n : ℕ). (n + 1) * w) (sym (length-take-le len places le))
 
 -- ---- all events, of which there are more
 
@@ -194,9 +179,6 @@ noted_more old start batch i now e h lt read there =
       longer = all_longer_more old now (start + i) e h.longer there;
     }
 
-pub noted_all : (old : List PlacedHistory) (start : ℕ) (batch : List Event) (i : ℕ) (now : List PlacedHistory) → NotedSoFar old start batch i now → length batch ≤ i → now ≡ with_places old start batch
-noted_all old start batch i now h all = h.items ∙ ap (with_places old start) (take_all i batch all)
-
 all_at : (P : Event → Type 0) (xs : List Event) (i : ℕ) (d : Event) → AllByRecursion P xs → i < length xs → P (get_or xs i d)
 all_at P [] i d h lt = absurd (omega arith)
 all_at P (x ∷ xs) zero d h lt = h.0
@@ -316,9 +298,6 @@ pub record CutBelow (shape : List ℕ) (old : List PlacedHistory) (i : ℕ) (now
   pub below : (p : ℕ) → p < i → get_or now p unplaced ≡ first_of (get_or old p unplaced) (get_or shape p 0)
   pub above : (p : ℕ) → i ≤ p → get_or now p unplaced ≡ get_or old p unplaced
 
-pub cut_none : (shape : List ℕ) (old : List PlacedHistory) → CutBelow shape old 0 old
-cut_none shape old = record { count = refl; below = λ p h. absurd (omega arith); above = λ p h. refl }
-
 pub cut_more : (shape : List ℕ) (old now : List PlacedHistory) (i len : ℕ) → CutBelow shape old i now → i < length now → len ≡ get_or shape i 0
     → CutBelow shape old (i + 1) (set now i (first_of (get_or now i unplaced) len))
 cut_more shape old now i len h lt is = record {
@@ -398,20 +377,6 @@ pub record MovedSoFar (old batch left now : List Event) : Type 0 where
   pub done : List Event
   pub split : batch ≡ done ++ reverse left
   pub moved : now ≡ old ++ done
-
-pub moved_none : (old batch left : List Event) → reverse left ≡ batch → MovedSoFar old batch left old
-moved_none old batch left is = record { done = []; split = sym is; moved = sym (append-nil old) }
-
-pub moved_more : (old batch left left' now : List Event) (e : Event) → MovedSoFar old batch left now → left ≡ left' ++ e ∷ [] → MovedSoFar old batch left' (now ++ e ∷ [])
-moved_more old batch left left' now e h is = record {
-  done = h.done ++ e ∷ [];
-  split = h.split ∙ ap (λ (es : List Event). h.done ++ es) (ap reverse is ∙ reverse-append left' (e ∷ [])) ∙ sym (append_assoc h.done (e ∷ []) (reverse left'));
-  moved = ap (λ (es : List Event). es ++ e ∷ []) h.moved ∙ append_assoc old h.done (e ∷ []);
-}
-
-pub moved_all : (old batch left now : List Event) → MovedSoFar old batch left now → left ≡ [] → now ≡ old ++ batch
-moved_all old batch left now h none =
-    h.moved ∙ ap (λ (es : List Event). old ++ es) (sym (h.split ∙ ap (λ (es : List Event). h.done ++ reverse es) none ∙ append-nil h.done))
 
 -- ---- what is read
 

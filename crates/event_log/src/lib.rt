@@ -1,13 +1,12 @@
-//! The text of a log: what its lines say, the first fault of any text, and the text of a log.
+//! The text of a log: what its lines say, and the first fault of any text.
 //!
 //! `Reader::feed` gives the items and the first fault of the bytes so far, however they are cut
 //! into pieces (`read`); after want of memory it answers that from then on (`spent`, `err`).
 //! `Reader::feed_log` does the same up to the end of one log, and hands back the bytes behind it.
-//! `Reader::finish` gives the first fault of the whole text (`fault`). `write_log` writes the text
-//! of a log. Laws: that text has no fault and gives the log's items (`a_log_reads_back`); a text
-//! without a fault is that of a log that can be written (`no_fault_is_a_log`); the items of any
-//! bytes are those of a log, as far as they go (`items_fit`); a header's lines are those of its
-//! variables (`lines_are_noted`).
+//! `Reader::finish` gives the first fault of the whole text (`fault`). Laws: the text of a log has
+//! no fault and gives the log's items (`a_log_reads_back`); a text without a fault is that of a log
+//! that can be written (`no_fault_is_a_log`); the items of any bytes are those of a log, as far as
+//! they go (`items_fit`); a header's lines are those of its variables (`lines_are_noted`).
 //!
 //! `States` keeps the state of each process after each of its events (`state`, `value`) and takes a
 //! batch whole or not at all (`extend`).
@@ -40,4 +39,4 @@ pub use log_lines::Name;
 pub use reader::Reader;
 pub use split::split_line;
 pub use states::States;
-pub use writing::{put_clock, put_names, put_spaced, write_log};
+pub use writing::{put_clock, put_names, put_spaced};

@@ -52,9 +52,6 @@ ready h b kept fit is =
       tt,
     )
 
-pub has_batch : (bs : List (List Event)) → length bs ≡ 1 → bs ≡ [] → ⊥
-has_batch bs one none = let zero = ap length none in omega (arith, one, zero)
-
 -- the one that was taken out is all
 pub only : (all given rest : List (List Event)) (b : List Event) → length all ≡ 1 → given ≡ all → given ≡ rest ++ b ∷ [] → all ≡ b ∷ []
 only all given rest b one is split =

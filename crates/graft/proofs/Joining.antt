@@ -1,6 +1,6 @@
 -- The rows of a joined slice.
-use Rattle.std.proofs.Common.{◌≡◌, ℕ, zero, suc, ◌+◌, ◌<◌, ◌≤◌, min, List, [], ◌∷◌, length, get_or, set, take, sum, Option, Some, None, refl, sym, ap, ◌∙◌, subst, arith, inl, inr, below_more}
-use Rattle.std.proofs.lemmas.List.{ext_get_or, get_or-set_same, get_or-set_other, length-set}
+use Rattle.std.proofs.Common.{◌≡◌, ℕ, zero, suc, ◌+◌, ◌<◌, ◌≤◌, min, List, [], ◌∷◌, length, get_or, take, sum, Option, Some, None, refl, sym, ap, ◌∙◌, subst, arith, inl, inr}
+use Rattle.std.proofs.lemmas.List.{ext_get_or}
 use Rattle.run_model.specs.Cut.{Cut, Clocks, count, min_cut, lengths}
 use Rattle.run_model.specs.Consistent.{IsOrder, IsConsistent, IsEvent}
 use Rattle.run_model.specs.Sublattice.{IsSublattice, Smallest, Either}
@@ -23,14 +23,6 @@ pub record MinBelow (left right : List ℕ) (n i : ℕ) (now : List ℕ) : Type 
 
 pub min_none : (left right now : List ℕ) (n : ℕ) → length now ≡ n → MinBelow left right n 0 now
 min_none left right now n size = record { len = size; below = λ k lt. absurd (omega arith) }
-
-pub min_more : (left right now : List ℕ) (n i v : ℕ) → MinBelow left right n i now → i < n → v ≡ min (count left i) (count right i) → MinBelow left right n (i + 1) (set now i v)
-min_more left right now n i v h lt is = record {
-  len = length-set now i v ∙ h.len;
-  below = below_more (λ k. count (set now i v) k ≡ min (count left k) (count right k)) i
-      (λ k less. get_or-set_other now i k v 0 (λ e. absurd (omega arith)) ∙ h.below k less)
-      (get_or-set_same now i v 0 (omega (arith, h.len)) ∙ is);
-}
 
 pub min_all : (left right now : List ℕ) (n i : ℕ) → MinBelow left right n i now → n ≤ i → length left ≡ n → length right ≡ n → now ≡ min_cut left right
 min_all left right now n i h all l r = ext_get_or 0 now (min_cut left right) (omega (arith, h.len, length-min left right))

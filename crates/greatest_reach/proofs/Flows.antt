@@ -4,7 +4,7 @@ use Rattle.std.specs.List.{All, Contains}
 use Rattle.std.specs.List.Sorted.{IsNonDecreasingBy, IsPermutation}
 use Rattle.std.proofs.lemmas.Bool.{cases_eq}
 use Rattle.std.proofs.lemmas.List.Sorted.{Contains-permutation, IsPermutation-sym}
-use Rattle.std.proofs.lemmas.List.{length-replicate, get_or_default, take_all, drop_all}
+use Rattle.std.proofs.lemmas.List.{get_or_default, take_all, drop_all}
 use Rattle.std.proofs.lemmas.List.Elements.{Contains-get_or, Contains-append_left, Contains-push, Contains-push_cases}
 use Rattle.greatest_reach.specs.declared.reach.Start.{Start}
 use Rattle.greatest_reach.specs.Back.{Back, itself, further}
@@ -21,9 +21,6 @@ none_in : (e : ℕ) → Contains {X = ℕ} [] e → ⊥
 none_in e h = omega (arith, h.1)
 
 -- ---- one number
-
-pub not_grown : (readers : List (List ℕ)) (value : ℕ) (old : List ℕ) → IsGrown readers value old old
-not_grown readers value old = record { kept = λ e h. refl; added = λ e h. inl h }
 
 -- what is on the stack is a node
 pub stacked_there : (readers : List (List ℕ)) (value : ℕ) (values stack : List ℕ) → 0 < value → IsUnderway readers value values stack → (e : ℕ) → Contains stack e → e < length values
@@ -122,66 +119,6 @@ none : (n e : ℕ) → get_or {A = ℕ} (replicate n 0) e 0 ≡ 0
 none zero e = refl
 none (suc n) zero = refl
 none (suc n) (suc e) = none n e
-
-pub none_settled : (readers : List (List ℕ)) (starts : List Start) (values : List ℕ) (i : ℕ) → values ≡ replicate (length readers) 0 → length starts ≤ i → AreSettled readers starts i values
-none_settled readers starts values i is all = record {
-  width = ap length is ∙ length-replicate (length readers) 0;
-  closed = λ f e reads. omega (arith, no f);
-  lower = λ e k lt. inl (no e);
-  done = λ k le lt. absurd (omega (arith, le, lt, all));
-  reached = λ e some. absurd (omega (arith, some, no e));
-}
-  where
-    no : (e : ℕ) → get_or values e 0 ≡ 0
-    no e = ap (λ (xs : List ℕ). get_or xs e 0) is ∙ none (length readers) e
-
--- a number that is 0 starts nothing
-pub zero_settled : (readers : List (List ℕ)) (starts : List Start) (i : ℕ) (values : List ℕ) → (start_at starts (i - 1)).value ≡ 0 → AreSettled readers starts i values → AreSettled readers starts (i - 1) values
-zero_settled readers starts i values is s = record {
-  width = s.width;
-  closed = s.closed;
-  lower = λ e k lt. s.lower e k (omega (arith, lt));
-  done = λ k le lt. elim (cases_eq k (i - 1)) [
-    | inl same ↦ omega (arith, ap (λ (n : ℕ). (start_at starts n).value) same, is)
-    | inr other ↦ s.done k (omega (arith, le, other)) lt
-  ];
-  reached = s.reached;
-}
-
--- the next number stands at its node
-pub start_underway : (readers : List (List ℕ)) (starts : List Start) (i value node : ℕ) (old new after : List ℕ) → 0 < i → value ≡ (start_at starts (i - 1)).value → AreSettled readers starts i old
-    → AreMarked (node ∷ []) value old new [] after → IsUnderway readers value new after
-start_underway readers starts i value node old new after first at s m = record { width = m.width ∙ s.width; closed = closed; stacked = stacked; lower = lower }
-  where
-    lower : (e : ℕ) → (get_or new e 0 ≡ 0) ⊎ (value ≤ get_or new e 0)
-    lower e = go (get_or new e 0) refl
-      where
-        go : (n : ℕ) → get_or new e 0 ≡ n → (get_or new e 0 ≡ 0) ⊎ (value ≤ get_or new e 0)
-        go zero is = inl is
-        go (suc n) is = elim (m.added e (omega (arith, is))) [
-          | inl had ↦ elim (s.lower e (i - 1) (omega (arith, first))) [ inl z ↦ absurd (omega (arith, had, z)) | inr low ↦ inr (omega (arith, low, at, m.kept e had)) ]
-          | inr k ↦ inr (omega (arith, k.1))
-        ]
-
-    stacked : (f : ℕ) → Contains after f → get_or new f 0 ≡ value
-    stacked f h = elim (m.stacked f h) [ inl was ↦ absurd (none_in f was) | inr is ↦ is ]
-
-    raised : (e : ℕ) → get_or old e 0 ≤ get_or new e 0
-    raised e = go (get_or old e 0) refl
-      where
-        go : (n : ℕ) → get_or old e 0 ≡ n → get_or old e 0 ≤ get_or new e 0
-        go zero is = omega (arith, is)
-        go (suc n) is = omega (arith, m.kept e (omega (arith, is)))
-
-    closed : (f e : ℕ) → Reads readers e f → (get_or new f 0 ≤ get_or new e 0) ⊎ Contains after f
-    closed f e reads = go (get_or new f 0) refl
-      where
-        go : (n : ℕ) → get_or new f 0 ≡ n → (get_or new f 0 ≤ get_or new e 0) ⊎ Contains after f
-        go zero is = inl (omega (arith, is))
-        go (suc n) is = elim (m.added f (omega (arith, is))) [
-          | inl had ↦ inl (omega (arith, s.closed f e reads, raised e, m.kept f had))
-          | inr k ↦ inr k.2
-        ]
 
 -- it has flowed
 pub one_settled : (readers : List (List ℕ)) (starts : List Start) (i value node : ℕ) (old mid new after : List ℕ) → 0 < i → i ≤ length starts → 0 < value → IsNonDecreasingBy (λ (s : Start). s.value) starts

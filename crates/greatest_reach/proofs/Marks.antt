@@ -20,17 +20,6 @@ none_in e h = omega (arith, h.1)
 abbrev one : ℕ → ℕ
 one v = if v == 0 then 1 else 0
 
-pub none_marked : (value : ℕ) (old before : List ℕ) → AreMarked [] value old old before before
-none_marked value old before = record {
-  width = refl;
-  kept = λ e h. refl;
-  all = λ e h. absurd (none_in e h);
-  added = λ e h. inl h;
-  stays = λ e h. h;
-  stacked = λ e h. inl h;
-  left = refl;
-}
-
 only : (node e : ℕ) → Contains (node ∷ []) e → node ≡ e
 only node e h = elim (Contains-push_cases [] node e h) [ inl none ↦ absurd (none_in e none) | inr is ↦ is ]
 

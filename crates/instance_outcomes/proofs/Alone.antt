@@ -1,15 +1,14 @@
 -- A list of one question.
-use Rattle.std.proofs.Common.{◌≡◌, ℕ, suc, ◌+◌, ◌*◌, ◌≤◌, List, [], ◌∷◌, ◌++◌, length, replicate, None, refl, sym, ap, ◌∙◌, arith}
+use Rattle.std.proofs.Common.{◌≡◌, ℕ, suc, ◌+◌, ◌*◌, ◌≤◌, List, [], ◌∷◌, ◌++◌, length, replicate, None, sym, ap, ◌∙◌, arith}
 use Rattle.std.proofs.lemmas.List.{length-map}
 use Rattle.question_meaning.specs.declared.form.Form.{Form}
 use Rattle.question_forms.specs.declared.question.Question.{Question}
 use Rattle.over_questions.specs.Barred.{barred_disjuncts}
-use Rattle.rctl_class.specs.NamedParts.{NamedPiece, AreDisjuncts, disjuncts_of, pieces_of}
-use Rattle.asked_list.specs.Lists.{Adds, HasRoom, IsAskedList, asked_count, each_count, disjuncts_in}
+use Rattle.rctl_class.specs.NamedParts.{NamedPiece, disjuncts_of, pieces_of}
+use Rattle.asked_list.specs.Lists.{Adds, IsAskedList, asked_count, each_count, disjuncts_in}
 use Rattle.asked_list.specs.declared.list.AskedList.{AskedList}
 use Rattle.asked_parts.specs.Asked.{parts_added}
 use Rattle.question_meaning.specs.declared.form.Form.TheVariants as form
-use Rattle.pota_base.specs.Limits.{most_parts}
 use Rattle.instance_outcomes.specs.inside.Lists.{IsListOf}
 
 -- ---- how many parts a form asks
@@ -39,22 +38,6 @@ each_of_one own [] = omega (arith, times_none own)
 each_of_one own (d ∷ ds) = omega (arith, each_of_one own ds, times_more own (length ds))
 
 -- ---- a list without questions, and with one
-
--- an empty list asks no parts
-none_asked : (list : AskedList) → IsAskedList list → list.classed.disjuncts ≡ [] → list.parts ≡ 0
-none_asked list is empty = is.counted ∙ ap (λ ds. each_count list.forms (disjuncts_of ds)) empty ∙ nothing list.forms
-  where
-    nothing : (forms : List Form) → each_count forms [] ≡ 0
-    nothing [] = refl
-    nothing (f ∷ fs) = refl
-
--- a question that has no room in it asks too many parts
-pub too_many : (list : AskedList) (q : Question) → IsAskedList list → list.classed.disjuncts ≡ [] → AreDisjuncts (disjuncts_of q.classed.disjuncts) → (HasRoom list q → ⊥)
-    → asked_count q.form (disjuncts_of q.classed.disjuncts) ≤ most_parts → ⊥
-too_many list q is empty sized full fits = full (record {
-  few = let nothing = ap length empty in omega (arith, nothing, sized.few, length-map q.classed.disjuncts pieces_of);
-  parts = omega (arith, none_asked list is empty, fits);
-})
 
 -- the list with the question behind no other
 pub listed_alone : (before after : AskedList) (q : Question) → before.classed.disjuncts ≡ [] → before.forms ≡ [] → IsAskedList after → Adds before q after

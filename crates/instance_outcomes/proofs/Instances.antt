@@ -20,9 +20,7 @@ use Rattle.rctl_grammar.specs.declared.tree.Operator.TheVariants as op
 use Rattle.rctl_grammar.specs.declared.tree.Tree.{Tree}
 use Rattle.rctl_grammar.specs.Shape.{meaning}
 use Rattle.rctl_class.specs.NamedParts as named
-use Rattle.rctl_class.specs.NamedParts.{NamedPiece, disjuncts_uses}
-use Rattle.rctl_class.specs.Uses.{first_unknown}
-use Rattle.rctl_names.specs.Numbers.{known_in}
+use Rattle.rctl_class.specs.NamedParts.{NamedPiece}
 use Rattle.rctl_names.specs.Resolving.{IsResolved, numbered_in, piece_in, pieces_in, scope_of}
 use Rattle.rctl_names.specs.Seen.{names_of}
 use Rattle.rctl_parts.specs.Pieces as piece
@@ -33,11 +31,10 @@ use Rattle.rctl_parts.specs.declared.part.Part.{Part}
 use Rattle.rctl_parts.specs.declared.part.Resolved.{Resolved}
 use Rattle.rctl_parts.proofs.Spelling.{disjuncts_spelled, spelled_disjuncts}
 use Rattle.part_pulls.specs.Counters.{AllRise, CountersRise, counters_of, counters_of_operand, counters_of_part, counters_of_parts}
-use Rattle.part_pulls.specs.Observing.{AreAnswers, IsReady, Reading, scope_seen}
+use Rattle.part_pulls.specs.Observing.{AreAnswers, Reading}
 use Rattle.part_pulls.specs.declared.observed.Observed.{Observed}
 use Rattle.part_pulls.proofs.Readings.{is_order}
 use Rattle.part_pulls.proofs.Rising.{counters_pieces, none_rise}
-use Rattle.conjunctions.specs.Settling.{CanAnswer}
 use Rattle.asked_parts.specs.Asked.{SpellAt, asked_disjuncts, asked_pieces, over}
 use Rattle.asked_parts.proofs.Spelling.{answered_by_parts}
 use Rattle.asked_list.specs.Lists.{IsAskedList, asked_each, disjuncts_in}
@@ -146,20 +143,8 @@ nothing_there w p on none e = not_there (sym (ap (λ (l : List (Option ℕ)). ge
     not_there : None ≡ Some p → ⊥
     not_there e = absurd cc
 
-pub is_ready : (seen : Observed) → IsBare seen → IsReady seen
-is_ready seen bare = record {
-  unspent = bare.unspent;
-  full = record { each = λ p w on. absurd (nothing_there w p seen.watch_process bare.watches on) };
-}
-
 answers_nothing : (seen : Observed) → IsBare seen → (reading : Reading) → AreAnswers seen reading
 answers_nothing seen bare reading = record { each = λ p w on. absurd (nothing_there w p seen.watch_process bare.watches on) }
-
-pub can_answer : (seen : Observed) (list : AskedList) (asked : List (List Part)) → IsBare seen → IsAskedOf (header_of seen) list asked → CanAnswer seen (piece.disjuncts_of asked)
-can_answer seen list asked bare are =
-    let made_so : AreMadeFor (scope_seen seen) (piece.disjuncts_of asked) =
-    subst (λ on. AreMadeFor (scope_of (header_of seen) on) (piece.disjuncts_of asked)) (sym bare.watches) are.made in
-    record { fit = made_so.fit; few = made_so.few; parts = made_so.parts }
 
 pub none_falls : (seen : Observed) (own : Form) (list : AskedList) (asked : List (List Part)) → IsAskable (header_of seen) own list → IsAskedOf (header_of seen) list asked
     → CountersRise seen (piece.disjuncts_of asked)
@@ -194,18 +179,6 @@ holds_so seen text q o bare out spelled watches head t asks =
     (λ h. by.1 (says.0 h), λ h. says.1 (by.0 h))
 
 -- ---- an instance
-
-pub askable : (header : Header) (i : Instance) (list : AskedList) → IsKnownIn header i → IsListOf i.question list → IsAskable header i.question.form list
-askable header i list known is =
-    let sized = known.read.2.classed.sized in
-    let items = is.disjuncts in
-    record {
-      list_is = is.list_is;
-      some = omega (arith, ap length items, sized.some, length-map i.question.classed.disjuncts named.pieces_of);
-      forms = is.forms ∙ ap (λ k. replicate k i.question.form) (sym (ap length items));
-      free = ap (λ ds. barred_disjuncts (named.disjuncts_of ds)) items ∙ is.can.free;
-      known = ap (λ ds. first_unknown (known_in (names_of header [])) [] (disjuncts_uses (named.disjuncts_of ds))) items ∙ known.known;
-    }
 
 pub holds_for : (seen : Observed) (i : Instance) (o : Outcome) → IsBare seen → IsKnownIn (header_of seen) i → IsOutcomeFor seen i.question.form (named.disjuncts_of i.question.classed.disjuncts) o
     → IsSpelled (header_of seen) (named.disjuncts_of i.question.classed.disjuncts) → (watches : Watches) → IsTrue o.holds ↔ HoldsFor seen watches i

@@ -36,9 +36,6 @@ as_many seen [] (a ∷ answers) each = absurd each
 as_many seen (i ∷ is) [] each = absurd each
 as_many seen (i ∷ is) (a ∷ answers) each = ap suc (as_many seen is answers each.1)
 
-pub none_yet : (seen : Observed) (t : Tally) → IsTallyOf [] t → IsTally seen [] t
-none_yet seen t is = record { answers = []; each = tt; counted = is }
-
 pub tally_more : (seen : Observed) (is : List Instance) (i : Instance) (a : Answered) (t u : Tally) → IsTally seen is t → IsAnswered seen i a
     → ((before : List Answered) → IsTallyOf before t → IsTallyOf (before ++ a ∷ []) u) → IsTally seen (is ++ i ∷ []) u
 tally_more seen is i a t u so one more = record {
@@ -56,9 +53,6 @@ known_behind (j ∷ before) i behind P all = known_behind before i behind P all.
 
 pub next_of : (all yielded rest : List Instance) (i : Instance) (behind : List Instance) → all ≡ yielded ++ rest → rest ≡ i ∷ behind → all ≡ yielded ++ i ∷ behind
 next_of all yielded rest i behind are is = are ∙ ap (λ l. yielded ++ l) is
-
-pub next_known : (all before : List Instance) (i : Instance) (behind : List Instance) (P : Instance → Type 0) → all ≡ before ++ i ∷ behind → AllByRecursion P all → P i
-next_known all before i behind P are known = known_behind before i behind P (subst (AllByRecursion P) are known)
 
 pub joined : (all yielded : List Instance) (i : Instance) (behind : List Instance) → all ≡ yielded ++ i ∷ behind → all ≡ (yielded ++ i ∷ []) ++ behind
 joined all yielded i behind are = are ∙ sym (append_assoc yielded (i ∷ []) behind)

@@ -1,4 +1,5 @@
 pub mod Tallies
 pub mod Answers
 pub mod Over
+pub mod PassedOn
 pub mod inside

@@ -39,19 +39,6 @@ clock_next counts clock j x lt is =
 pub events_append : (numbers : Numbers) (counts : List (List ℕ)) (xs ys : List Event) → events_by numbers counts (xs ++ ys) ≡ events_by numbers counts xs ++ events_by numbers counts ys
 events_append numbers counts xs ys = ap (map (event_by numbers counts)) (filter_append (is_kept numbers) xs ys) ∙ map-append (event_by numbers counts) _ _
 
-pub event_more : (numbers : Numbers) (counts : List (List ℕ)) (batch : List Event) (i : ℕ) (e : Event) → i < length batch → e ≡ get_or batch i e → is_kept numbers e ≡ true → events_by numbers counts (take (i + 1) batch) ≡ events_by numbers counts (take i batch) ++ event_by numbers counts e ∷ []
-event_more numbers counts batch i e lt is on =
-    ap (events_by numbers counts) (take_more batch i e lt ∙ ap (λ (y : Event). take i batch ++ y ∷ []) (sym is))
-    ∙ events_append numbers counts (take i batch) (e ∷ [])
-    ∙ ap (λ (es : List Event). events_by numbers counts (take i batch) ++ map (event_by numbers counts) es) (cond-true (is_kept numbers e) (e ∷ []) [] on)
-
-pub event_same : (numbers : Numbers) (counts : List (List ℕ)) (batch : List Event) (i : ℕ) (e : Event) → i < length batch → e ≡ get_or batch i e → is_kept numbers e ≡ false → events_by numbers counts (take (i + 1) batch) ≡ events_by numbers counts (take i batch)
-event_same numbers counts batch i e lt is off =
-    ap (events_by numbers counts) (take_more batch i e lt ∙ ap (λ (y : Event). take i batch ++ y ∷ []) (sym is))
-    ∙ events_append numbers counts (take i batch) (e ∷ [])
-    ∙ ap (λ (es : List Event). events_by numbers counts (take i batch) ++ map (event_by numbers counts) es) (cond-false (is_kept numbers e) (e ∷ []) [] off)
-    ∙ append-nil (events_by numbers counts (take i batch))
-
 as_one_append : (xs : List (List Event)) (b : List Event) → as_one (xs ++ b ∷ []) ≡ as_one xs ++ b
 as_one_append [] b = append-nil b
 as_one_append (x ∷ xs) b = ap (λ (es : List Event). x ++ es) (as_one_append xs b) ∙ sym (append_assoc x (as_one xs) b)

@@ -7,7 +7,7 @@ use Rattle.memchr.specs.Find.{Nowhere, Passes, is_byte, IsFirstByte}
 use Rattle.pota_names.specs.Names.{is_name}
 use Rattle.kept_names.specs.declared.names.Pair.{Pair}
 use Rattle.kept_names.specs.declared.names.Names.{Names}
-use Rattle.kept_names.specs.Words.{parted, pair_of, is_keep, with_word, and_then, names_from, names_kept, no_names}
+use Rattle.kept_names.specs.Words.{parted, pair_of, is_keep, with_word, and_then, names_from, names_kept}
 
 -- ---- one word
 
@@ -67,9 +67,6 @@ none_left waits names = refl
 one_more : (waits : Bool) (names : Names) (word : List ℕ) (words : List (List ℕ)) → names_from waits names (word ∷ words) ≡ and_then (with_word waits names word) (λ more. names_from (not waits && is_keep word) more words)
 unfolding names_from
 one_more waits names word words = refl
-
-pub nothing_read : {S : Type 0} (f : S → List ℕ) (words : List S) → names_from false no_names (map f (drop 0 words)) ≡ names_kept (map f words)
-nothing_read f words = refl
 
 -- each word of a list is the text f of an item
 module _ {S : Type 0} (f : S → List ℕ) (words : List S) (i : ℕ) (waits : Bool) (names : Names) (so_far : names_from waits names (map f (drop i words)) ≡ names_kept (map f words)) where

@@ -1,5 +1,5 @@
 -- Rows that are raised to their least closed vectors, one after the other.
-use Rattle.std.proofs.Common.{◌≡◌, ℕ, zero, suc, ◌+◌, ◌-◌, ◌*◌, ◌<◌, ◌≤◌, min, max, List, length, get_or, take, drop, set, sum, refl, sym, ap, ◌∙◌, subst, arith, inl, inr, below_more}
+use Rattle.std.proofs.Common.{◌≡◌, ℕ, zero, suc, ◌+◌, ◌-◌, ◌*◌, ◌<◌, ◌≤◌, min, max, List, length, get_or, take, drop, set, sum, sym, ap, ◌∙◌, subst, arith, inl, inr, below_more}
 use Rattle.std.proofs.Math.Nat.{mul-le-mul_right}
 use Rattle.std.proofs.lemmas.Bool.{cases_lt, cases_eq}
 use Rattle.std.proofs.lemmas.List.{ext_get_or, get_or-take, get_or-drop, length-take, length-drop, length-set, get_or-set_same, get_or-set_other}
@@ -46,9 +46,6 @@ pub record RaisedRow (n row : ℕ) (old v : List ℕ) (q : ℕ) (now : List ℕ)
   pub size : length now ≡ length old
   pub below : (p : ℕ) → p < q → get_or now (row * n + p) 0 ≡ get_or v p 0
   pub others : (place : ℕ) → ((p : ℕ) → p < q → place ≡ row * n + p → ⊥) → get_or now place 0 ≡ get_or old place 0
-
-pub raised_none : (n row : ℕ) (old v : List ℕ) → RaisedRow n row old v 0 old
-raised_none n row old v = record { size = refl; below = λ p lt. absurd (omega arith); others = λ place _. refl }
 
 pub raised_more : (n row : ℕ) (old v now new : List ℕ) (q value : ℕ) → RaisedRow n row old v q now → row * n + q < length now → value ≡ get_or v q 0
     → get_or old (row * n + q) 0 ≤ value → new ≡ set now (row * n + q) (max (get_or now (row * n + q) 0) value) → RaisedRow n row old v (q + 1) new

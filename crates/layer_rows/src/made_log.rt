@@ -1,7 +1,8 @@
 //! The text of a log that is made from a number.
 ghost use Rattle.event_log.specs.Laws.{IsLog};
 
-use event_log::{Log, Reader, write_log};
+use event_log::{Log, Reader};
+use log_writing::write_log;
 use pota_base::{NoMemory, Refused};
 use std::alloc::{AllocError, Global};
 use trace_gen::generate;

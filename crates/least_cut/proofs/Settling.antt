@@ -2,7 +2,6 @@
 use Rattle.std.proofs.Common.{◌≡◌, ◌≢◌, ℕ, ◌*◌, ◌+◌, ◌<◌, ◌≤◌, ◌⊎◌, inl, inr, List, Bool, true, false, length, get_or, set, sum, arith, subst, sym, ap, ◌∙◌, get_or-set_same}
 use Rattle.std.proofs.lemmas.List.{length-set}
 use Rattle.std.proofs.Math.Nat.{mul-le-mul_left}
-use Rattle.pota_base.specs.Limits.{most_processes}
 use Rattle.pull_system.specs.declared.pull.Pull.{Pull}
 use Rattle.least_cut.specs.inside.Climb.{AreHeld, IsLook, IsLooked, AreMarks}
 use Rattle.pull_system.specs.Marks.{marked}
@@ -67,13 +66,6 @@ module _ (system : SystemView) (k : ℕ) (v w : List ℕ) (risen marks : List Bo
 pub settled_by : (system : SystemView) (v : List ℕ) (risen : List Bool) (looked less : ℕ → Type 0) → ((k : ℕ) → k < length system.pulls → less k → looked k) → AreHeld system v risen looked → AreHeld system v risen less
 settled_by system v risen looked less all settled = record { each = λ k there was unmarked. settled.each k there (all k there was) unmarked }
 
--- where a mark is taken off, the pulls from elsewhere are as settled as they were
-pub taken_settled : (system : SystemView) (v : List ℕ) (risen : List Bool) (process : ℕ) → AreHeld system v risen (λ k. Unit {0}) → AreHeld system v (set risen process false) (λ k. source_of system k ≢ process)
-taken_settled system v risen process settled = record {
-  each = λ k there other unmarked.
-      settled.each k there tt (elim (set_case risen process false (source_of system k) false) [ inl e ↦ sym e ∙ unmarked | inr e ↦ absurd (other e.0) ]);
-}
-
 pub looked_none : (system : SystemView) (process : ℕ) (numbers : List ℕ) (k : ℕ) → IsLooked system process numbers 0 k → source_of system k ≢ process
 looked_none system process numbers k (inl other) = other
 looked_none system process numbers k (inr among) = absurd (omega (arith, among.before))
@@ -100,19 +92,10 @@ looked_all system process k there =
       | inr other ↦ inl other
     ]
 
-pub marks_none : (lens : List ℕ) (risen : List Bool) → length risen ≡ most_processes → ((process : ℕ) → get_or risen process false ≡ false) → AreMarks lens risen
-marks_none lens risen size none = record { size = size; there = λ process is. let e : true ≡ false = sym is ∙ none process in absurd (cc) }
-
 pub marks_more : (lens : List ℕ) (risen : List Bool) (process : ℕ) → AreMarks lens risen → process < length lens → AreMarks lens (set risen process true)
 marks_more lens risen process marks here = record {
   size = length-set risen process true ∙ marks.size;
   there = λ i is. elim (set_case risen process true i false) [ inl e ↦ marks.there i (sym e ∙ is) | inr e ↦ omega (arith, e.0) ];
-}
-
-pub marks_less : (lens : List ℕ) (risen : List Bool) (process : ℕ) → AreMarks lens risen → AreMarks lens (set risen process false)
-marks_less lens risen process marks = record {
-  size = length-set risen process false ∙ marks.size;
-  there = λ i is. elim (set_case risen process false i false) [ inl e ↦ marks.there i (sym e ∙ is) | inr e ↦ let f : true ≡ false = sym is ∙ e.1 in absurd (cc) ];
 }
 
 -- after a look at pull k, it is one of those that were looked at

@@ -1,5 +1,5 @@
 -- Pulls of parts that are put behind those of others.
-use Rattle.std.proofs.Common.{◌≡◌, Bool, true, false, List, [], ◌∷◌, ◌++◌, refl, sym, ◌∙◌, ap, arith, append_assoc, append-nil, length-append}
+use Rattle.std.proofs.Common.{◌≡◌, Bool, true, false, List, [], ◌∷◌, ◌++◌, refl, ◌∙◌, ap, arith, append_assoc, length-append}
 use Rattle.std.specs.Prelude.{◌↔◌, ◌&&◌}
 use Rattle.std.proofs.lemmas.List.Elements.{All-append}
 use Rattle.run_model.proofs.EdgeLemmas.{all_left, all_right}
@@ -8,7 +8,7 @@ use Rattle.run_model.specs.Run.{Run}
 use Rattle.run_model.specs.Meaning.{SatAll}
 use Rattle.pull_system.specs.declared.pull.Pull.{Pull}
 use Rattle.pull_system.specs.System.{IsPull}
-use Rattle.pull_system.specs.Pulls.{HoldsAt, ClosedUnder}
+use Rattle.pull_system.specs.Pulls.{HoldsAt}
 use Rattle.rctl_parts.specs.Pieces.{Atom, Piece, atom, pieces}
 use Rattle.rctl_parts.specs.Spelled.{Names, formulas_of}
 use Rattle.part_pulls.specs.declared.observed.Observed.{Observed}
@@ -24,18 +24,6 @@ sat_joined r names [] qs c = (λ h. (tt, h), λ h. h.1)
 sat_joined r names (p ∷ ps) qs c =
     let others = sat_joined r names ps qs c in
     (λ h. let both = others.0 h.1 in ((h.0, both.0), both.1), λ h. (h.0.0, others.1 (h.0.1, h.1)))
-
-closed_none : (c : Cut) → ClosedUnder [] c
-closed_none c k d there = absurd (omega arith)
-
-pub asks_none : (seen : Observed) (pulls : List Pull) → AsksMore seen pulls pulls []
-asks_none seen pulls = record {
-  added = [];
-  is = sym (append-nil pulls);
-  fit = λ k d there. absurd (omega arith);
-  few = omega arith;
-  meaning = λ reading are c consistent. (λ h. tt, λ h. closed_none c);
-}
 
 pub asks_more : (seen : Observed) (a b c : List Pull) (ps qs : List Piece) → AsksMore seen a b ps → AsksMore seen b c qs → AsksMore seen a c (ps ++ qs)
 asks_more seen a b c ps qs first second = record {

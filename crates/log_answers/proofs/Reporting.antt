@@ -1,9 +1,7 @@
 -- What writing a report, or the summary of a bench, leads to.
-use Rattle.std.proofs.Common.{◌≡◌, ℕ, Bool, true, Option, Result, Ok, Err, List, [], ◌∷◌, ◌++◌, refl, sym, ap, subst, ◌∙◌, arith, append-nil}
-use Rattle.std.specs.Prelude.{OnOk, OnErr}
-use Rattle.std.specs.Io.KnownBytes.{Appends}
+use Rattle.std.proofs.Common.{◌≡◌, ℕ, Bool, true, Option, Ok, Err, List, [], ◌∷◌, ◌++◌, refl, sym, ap, subst, ◌∙◌, arith, append-nil}
 use Rattle.std.proofs.KnownBytes.{Appends-nil}
-use Rattle.pota_base.specs.Outside.{Rose, IsPrefix, HasCause, AppendsPrefix}
+use Rattle.pota_base.specs.Outside.{IsPrefix}
 use Rattle.pota_base.specs.Changes.{change_of, counts_of}
 use Rattle.report.specs.declared.report.Report.{Report}
 use Rattle.report.specs.Spelling.{report_text}
@@ -11,45 +9,22 @@ use Rattle.run_report.specs.Reports.{Asked, IsReportOf}
 use Rattle.log_rules.specs.SoFar.{counted}
 use Rattle.run_report.specs.Benches.{IsSummaryOf, benched, summary_text}
 use Rattle.call_options.specs.declared.sizes.Sizes.{Sizes}
-use Rattle.fault_kinds.specs.declared.refusal.Refusal.{Refusal}
 use Rattle.log_rules.specs.Judgement.{Prefix, Judgement, waiting, growing, finished, refused}
 use Rattle.log_rules.specs.Due.{batches_of}
 use Rattle.log_judgement.specs.Texts.{IsReportText}
 use Rattle.log_judgement.proofs.Texts.{texts_join}
 use Rattle.reported_log.specs.Aims.{Aim, asked_of, IsReportFor}
-use Rattle.reported_log.specs.Checking.{HasClosed, IsRefusedAs}
+use Rattle.reported_log.specs.Checking.{HasClosed}
 use Rattle.log_answers.specs.Asking.{reached_of, summing_of}
 use Rattle.log_answers.specs.declared.stop.StopCause.TheVariants as causes
 use Rattle.log_answers.specs.declared.stop.Stop.{Stop}
 use Rattle.log_answers.specs.declared.stop.Verdict.{Verdict}
 use Rattle.log_answers.specs.Checking.{AreReportsFor, ReportStops, Reports, IsBenchAim}
 use Rattle.log_answers.specs.Checking.{SummaryStops, SumsUp}
-use Rattle.log_answers.specs.inside.Checking.{Puts, JudgeStops}
+use Rattle.log_answers.specs.inside.Checking.{Puts}
 use Rattle.log_answers.proofs.Items.{whole_front}
 
 -- ---- one text
-
-pub puts_whole : {T E : Type 0} (x : T) (r : Result T E) (held held' : Option (List ℕ)) (of of' : ℕ)
-    (text : List ℕ) (n : ℕ) → OnOk r (Appends held held' text) → r ≡ Ok x → HasCause of of' r
-    → Puts (change_of held held' of of') text n (Ok x)
-puts_whole {T} {E} x r held held' of of' text n whole is cause = record {
-  written = text;
-  wrote = subst (λ (z : Result T E). OnOk z (Appends held held' text)) is whole;
-  later = cause.later;
-  to = refl;
-}
-
-pub puts_part : {T E : Type 0} (e : E) (r : Result T E) (held held' : Option (List ℕ)) (of of' : ℕ)
-    (text : List ℕ) (n : ℕ) → OnErr r (AppendsPrefix held held' text) → r ≡ Err e → HasCause of of' r
-    → Puts {T = T} (change_of held held' of of') text n (Err (record { batches = n; cause = causes.Write }))
-puts_part {T} {E} e r held held' of of' text n part is cause =
-    let p = subst (λ (z : Result T E). OnErr z (AppendsPrefix held held' text)) is part in
-    record {
-      written = p.0;
-      wrote = p.2;
-      later = cause.later;
-      to = (refl, p.1, subst (λ (z : Result T E). OnErr z (Rose of of')) is cause.failed);
-    }
 
 -- ---- a report
 
@@ -120,15 +95,6 @@ module _ (aim : Aim) (n : ℕ) (before : List Prefix) (log : Prefix) (text : Lis
     }
 
 -- ---- a refusal
-
-pub judge_refused : (r : Refusal) (before after : Judgement) (n : ℕ) (stop : Stop)
-    → stop ≡ record { batches = n; cause = causes.Refused r } → IsRefusedAs before after n r → JudgeStops stop.cause stop.batches before after
-judge_refused r before after n stop is h = subst (λ (s : Stop). JudgeStops s.cause s.batches before after) (sym is) h
-
-pub judge_short : (before after : Judgement) (stop : Stop) → stop ≡ record { batches = 0; cause = causes.Memory }
-    → JudgeStops stop.cause stop.batches before after
-judge_short before after stop is =
-    subst (λ (s : Stop). JudgeStops s.cause s.batches before after) (sym is) refl
 
 -- ---- a summary
 

@@ -38,7 +38,6 @@ use Rattle.log_rules.proofs.Items.{after_each-push}
 use Rattle.observation.specs.declared.observation.Observation.{Observation}
 use Rattle.observation.specs.Growing.{GrowingView, TakesBatch, first_fault}
 use Rattle.observation.specs.Fed.{AreFedFrom}
-use Rattle.observation.proofs.Later.{later_itself}
 use Rattle.log_intake.specs.declared.intake.LogIntake.{LogIntake}
 use Rattle.log_intake.specs.Taking.{Terms, alone, end_item, MayFollow, HasClosed, trace_after, AreJudged, AreHanded, IsObserved, CanOpen, IsWaiting, HasLog, HasSince, Keeps, IsIntakeOf, GoesOn, GrowsFrom, IsRefusedAs}
 
@@ -304,11 +303,6 @@ module _ {X : Type 0} {P : X → Type 0} (says : Says X P) (terms : Terms) where
   log_is j log kept o is closed some =
       let h = has_log j log kept is closed in
       subst (IsObserved says terms log) (same_Some h.observation o (sym h.some ∙ some)) h.is
-
--- what is observed goes on from itself
-pub grows_still : {X : Type 0} {P : X → Type 0} → (o : Option (Observation X P)) → GrowsFrom o o
-grows_still None = tt
-grows_still (Some o) = (refl, later_itself o.growing.seen)
 
 pub grows_on : {X : Type 0} {P : X → Type 0} → (before : Option (Observation X P)) (o next : Observation X P) (batch : List Event) → before ≡ Some o → TakesBatch o.growing next.growing batch → GrowsFrom before (Some next)
 grows_on before o next batch some takes = subst (λ (b : Option (Observation _ _)). GrowsFrom b (Some next)) (sym some) (takes.disjuncts, takes.later)

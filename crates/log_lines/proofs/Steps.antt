@@ -1,5 +1,5 @@
 -- How the readers of Reading follow a loop over the bytes.
-use Rattle.std.proofs.Common.{◌≡◌, ℕ, zero, suc, ◌+◌, ◌-◌, ◌^◌, ◌<◌, ◌≤◌, Bool, true, false, Option, Some, None, List, [], ◌∷◌, ◌++◌, length, drop, slice_index, refl, ap, arith}
+use Rattle.std.proofs.Common.{◌≡◌, ℕ, zero, suc, ◌+◌, ◌-◌, ◌^◌, ◌<◌, ◌≤◌, true, false, Option, Some, None, List, [], ◌∷◌, ◌++◌, length, drop, slice_index, refl, ap, arith}
 use Rattle.std.proofs.lemmas.List.{drop_more, drop_all}
 use Rattle.log_lines.specs.Names.{Name}
 use Rattle.std.specs.Prelude.{◌==◌, map}
@@ -11,15 +11,6 @@ use Rattle.log_lines.specs.Drafts.{Fails, values_of}
 use Rattle.log_lines.specs.Reading.{front, text_at, items_from, clock_from, number_at}
 
 -- ---- names
-
-pub front-more : (test : ℕ → Bool) (xs : List ℕ) (i : ℕ) → i < length xs → test (slice_index xs i) ≡ true → front test (drop i xs) ≡ front test (drop (i + 1) xs) + 1
-front-more test xs i lt h = rw (drop_more xs i 0 lt, h) refl
-
-pub front-stop : (test : ℕ → Bool) (xs : List ℕ) (i : ℕ) → i < length xs → test (slice_index xs i) ≡ false → front test (drop i xs) ≡ 0
-front-stop test xs i lt h = rw (drop_more xs i 0 lt, h) refl
-
-pub front-all : (test : ℕ → Bool) (xs : List ℕ) (i : ℕ) → length xs ≤ i → front test (drop i xs) ≡ 0
-front-all test xs i le = rw drop_all refl
 
 -- ---- words
 

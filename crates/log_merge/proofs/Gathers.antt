@@ -2,7 +2,7 @@
 use Rattle.std.proofs.Common.{◌≡◌, ℕ, zero, suc, ◌+◌, ◌-◌, ◌<◌, ◌≤◌, false, Option, Some, None, List, [], ◌∷◌, ◌++◌, length, take, get_or, refl, sym, ap, ◌∙◌, subst, arith, append_assoc, inl, inr}
 use Rattle.std.specs.Prelude.{◌==◌, slice_get}
 use Rattle.std.proofs.lemmas.Bool.{cases_Bool, ne_eqb, eqb-true}
-use Rattle.std.proofs.lemmas.List.{append-nil, map-append, length-map, length-append, length-take-le, take_all}
+use Rattle.std.proofs.lemmas.List.{append-nil, map-append, length-map, length-append, length-take-le}
 use Rattle.std.proofs.lemmas.List.Sums.{sum_by-cons}
 use Rattle.pota_base.specs.Limits.{most_events}
 use Rattle.event_log.specs.declared.log.Binding.{Binding}
@@ -27,9 +27,6 @@ numbered-append n (x ∷ xs) ys =
 pub length-numbered : (n : ℕ) (xs : List Placed) → length (numbered n xs) ≡ length xs
 length-numbered n [] = refl
 length-numbered n (x ∷ xs) = ap suc (length-numbered (n + 1) xs)
-
-pub gathers_none : (g : Gathered) → Gathers g g []
-gathers_none g = record { events = sym (append-nil g.events); origins_are = sym (append-nil g.origins) }
 
 pub length-gathers : (a b : Gathered) (xs : List Placed) → Gathers a b xs → length b.events ≡ length a.events + length xs
 length-gathers a b xs g = ap length g.events ∙ length-append a.events (numbered (length a.events + 1) xs) ∙ ap (λ (n : ℕ). length a.events + n) (length-numbered (length a.events + 1) xs)
@@ -182,6 +179,3 @@ pub room_step : (a b : Gathered) (n : ℕ) (batches slice : List (List Event)) (
     → Gathers a b (placed_events n (all_events (take i batches))) → length a.events + length (all_events batches) ≤ most_events → length b.events + length part ≤ most_events
 room_step a b n batches slice i batch part same lt is part_is g room =
     omega (arith, ap length part_is, room_batch a b n batches i batch (omega (arith, ap length same, lt)) (is ∙ ap (λ (bs : List (List Event)). get_or bs i batch) same) g room)
-
-pub gathers_end : (a b : Gathered) (n : ℕ) (batches slice : List (List Event)) (i : ℕ) → slice ≡ batches → length slice ≤ i → Gathers a b (placed_events n (all_events (take i batches))) → Gathers a b (placed_events n (all_events batches))
-gathers_end a b n batches slice i same le g = subst (λ (bs : List (List Event)). Gathers a b (placed_events n (all_events bs))) (take_all i batches (omega (arith, ap length same, le))) g

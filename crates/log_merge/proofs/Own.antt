@@ -1,5 +1,5 @@
 -- The lines of a source, one after the other.
-use Rattle.std.proofs.Common.{◌≡◌, ℕ, ◌+◌, ◌-◌, ◌<◌, ◌≤◌, Bool, true, false, cond, Option, Some, None, List, [], ◌∷◌, ◌++◌, length, drop, refl, sym, ap, ◌∙◌, arith}
+use Rattle.std.proofs.Common.{◌≡◌, ℕ, ◌+◌, ◌-◌, ◌<◌, ◌≤◌, Bool, true, false, cond, Option, Some, List, [], ◌∷◌, ◌++◌, length, drop, refl, sym, ap, ◌∙◌, arith}
 use Rattle.std.specs.Prelude.{◌==◌, slice_get}
 use Rattle.std.proofs.Common.{get_or}
 use Rattle.std.proofs.Math.ListN.{drop_of_length-le}
@@ -62,9 +62,6 @@ module _ (batches : List (List Event)) (i : ℕ) (batch : List Event) (lt : i < 
   -- or behind it
   pub line_later : (left : ℕ) (all : Option ℕ) → length batch ≤ left → line_at left (all_events (drop i batches)) ≡ all → line_at (left - length batch) (all_events (drop (i + 1) batches)) ≡ all
   line_later left all le h = sym (ap (λ (o : Option Event). option_map (λ (x : Event). x.line) o) (ap (λ (es : List Event). slice_get es left) events_at ∙ get_back batch rest left le)) ∙ h
-
-pub none_behind : (batches : List (List Event)) (i left : ℕ) → length batches ≤ i → line_at left (all_events (drop i batches)) ≡ None
-none_behind batches i left le = rw (drop_of_length-le batches {i = i} le) refl
 
 pub seen_step : (batches slice : List (List Event)) (i : ℕ) (batch part : List Event) (s t all : Seen) → slice ≡ batches → i < length slice → batch ≡ get_or slice i batch → part ≡ batch → t ≡ seen_after s (own_event_lines part)
     → seen_after s (own_event_lines (all_events (drop i batches))) ≡ all → seen_after t (own_event_lines (all_events (drop (i + 1) batches))) ≡ all

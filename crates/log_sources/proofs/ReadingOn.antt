@@ -303,9 +303,6 @@ module _ (r : SourceReader) (log : Log) (s : Sources) (reads : ReadsOn r s) (end
 
 -- ---- pieces
 
-pub piece_starts : (r : SourceReader) (piece : List ℕ) → TakesBytes r piece piece r
-piece_starts r piece s has = record { now = s; reads = has; same = refl }
-
 pub then_takes : (a b c : SourceReader) (bytes middle left : List ℕ) → TakesBytes a bytes middle b → TakesBytes b middle left c → TakesBytes a bytes left c
 then_takes a b c bytes middle left first second s has =
     let one = first s has in

@@ -3,7 +3,7 @@ use Rattle.std.proofs.Common.{◌≡◌, ℕ, zero, suc, ◌+◌, ◌<◌, ◌�
 use Rattle.std.specs.List.{AllByRecursion}
 use Rattle.std.proofs.lemmas.Bool.{false≢true}
 use Rattle.std.proofs.lemmas.List.{length_push}
-use Rattle.std.proofs.lemmas.Option.{none-some, same_Some}
+use Rattle.std.proofs.lemmas.Option.{same_Some}
 use Rattle.pota_base.specs.Limits.{most_events}
 use Rattle.log_lines.specs.Reading.{choose}
 use Rattle.event_log.specs.declared.item.Item.TheVariants as item
@@ -112,23 +112,6 @@ adds (finished log last) e kept es is fit pushed = (
 adds (refused log why) e kept es is fit pushed = absurd is
 
 -- ---- a batch is closed
-
--- behind the end nothing changes
-pub stays : (j : Judgement) (last : Bool) (kept : LogTrace) → Keeps kept j → MayFollow j (end_item last ∷ []) → kept.ended ≡ true → Keeps kept (judge without_formula j (end_item last))
-stays waiting false kept is fit ended = absurd fit
-stays waiting true kept is fit ended = absurd fit
-stays (growing log since) last kept is fit ended = absurd (false≢true (sym is.1.open_ ∙ ended))
-stays (finished log closed) false kept is fit ended = is
-stays (finished log closed) true kept is fit ended = is
-stays (refused log why) last kept is fit ended = absurd is
-
--- the header came
-pub has_header : (j : Judgement) (last : Bool) (kept : LogTrace) → Keeps kept j → MayFollow j (end_item last ∷ []) → kept.ended ≡ false → kept.trace ≡ None → ⊥
-has_header waiting false kept is fit open_ none = fit
-has_header waiting true kept is fit open_ none = fit
-has_header (growing log since) last kept is fit open_ none = none-some is.0.trace (sym none ∙ is.0.is)
-has_header (finished log closed) last kept is fit open_ none = none-some is.0.trace (sym none ∙ is.0.is)
-has_header (refused log why) last kept is fit open_ none = is
 
 -- the batch that the trace has to take
 record Closing (j : Judgement) (kept : LogTrace) (trace : TraceView) (batch : List Event) : Type 0 where

@@ -9,6 +9,7 @@ ghost use Rattle.event_log.specs.Numbers.{variables_at};
 ghost use Rattle.event_log.specs.LogText.{values_of, named_values, action_of, vars_lines};
 ghost use Rattle.event_log.specs.LogText.{event_lines, batch_lines, closing_line};
 ghost use Rattle.event_log.specs.LogText.{text_of, log_text, AssignFits, KindWithin};
+ghost use Rattle.event_log.specs.Laws.{IsLog};
 ghost use Rattle.log_writing.specs.Spelling.{CanBeSpelled, BatchesCanBeSpelled, HasText};
 
 use event_log::{
@@ -212,4 +213,12 @@ pub fn text_of(alloc: Global, log: &Log) -> Result<Bytes, NoMemory>
     )?;
     put_batches(&mut out, &log.header, log.batches.as_slice())?;
     Ok(out)
+}
+
+/// The text of a log that reading gives.
+pub fn write_log(alloc: Global, log: &Log) -> Result<Bytes, NoMemory>
+    requires { IsLog log.now }
+    ensures { IfOk result (λ text. text ≡ log_text log.now) }
+{
+    text_of(alloc, log)
 }

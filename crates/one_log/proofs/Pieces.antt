@@ -1,13 +1,13 @@
 -- A line of several pieces.
 use Rattle.std.proofs.Common.{◌≡◌, ℕ, zero, suc, Option, List, [], ◌∷◌, ◌++◌, map, refl, sym, ap, subst, ◌∙◌, append_assoc}
-use Rattle.std.specs.Prelude.{codes, slice_get, unwrap_or, Result, Ok, Err, OnErr}
+use Rattle.std.specs.Prelude.{codes, slice_get, Result, Ok, Err, OnErr}
 use Rattle.std.specs.Option.{option_map}
 use Rattle.std.specs.Io.KnownBytes.{Appends}
 use Rattle.std.proofs.KnownBytes.{Appends-trans}
 use Rattle.pota_base.specs.Outside.{AppendsPrefix}
 use Rattle.pota_base.specs.Changes.{change_of}
 use Rattle.fault_line.specs.Lines.{Told}
-use Rattle.one_log.specs.Faults.{program, unknown_text, word_at}
+use Rattle.one_log.specs.Faults.{program, unknown_text}
 
 -- ---- a word
 
@@ -15,10 +15,6 @@ get-map : {S : Type 0} (f : S → List ℕ) (xs : List S) (i : ℕ) → slice_ge
 get-map f [] i = refl
 get-map f (x ∷ xs) zero = refl
 get-map f (x ∷ xs) (suc i) = get-map f xs i
-
-pub word_there : {S : Type 0} (f : S → List ℕ) (xs : List S) (i : ℕ) (o : Option S) → slice_get xs i ≡ o → unwrap_or (option_map f o) [] ≡ word_at (map f xs) i
-word_there f xs i o is =
-    ap (λ (x : Option (List ℕ)). unwrap_or x []) (ap (option_map f) (sym is) ∙ sym (get-map f xs i))
 
 -- ---- pieces
 
@@ -37,9 +33,6 @@ longer a b text rest part =
 pub behind : (a b c : Option (List ℕ)) (first text : List ℕ) → Appends a b first → AppendsPrefix b c text → AppendsPrefix a c (first ++ text)
 behind a b c first text one part =
     (first ++ part.0, (part.1.0, ap (λ (xs : List ℕ). first ++ xs) part.1.1 ∙ sym (append_assoc first part.0 part.1.0)), Appends-trans a b c first part.0 one part.2)
-
-pub all_pieces : (a b c d : Option (List ℕ)) (first word last : List ℕ) → Appends a b first → Appends b c word → Appends c d last → Appends a d (first ++ (word ++ last))
-all_pieces a b c d first word last one two three = Appends-trans a b d first (word ++ last) one (Appends-trans b c d word last two three)
 
 -- ---- the line of an unknown name
 

@@ -36,10 +36,6 @@ pub told_text : {T E : Type 0} (r : Result T E) (old new : Option (List ℕ)) (b
 told_text (Ok x) old new before now text ok err cause = record { whole = λ calm. ok; part = (text, ([], sym (append-nil text)), ok) }
 told_text (Err e) old new before now text ok err cause = record { whole = λ calm. absurd (calm cause.failed); part = err }
 
--- nothing was written, and nothing was to be
-pub untold : (old : Option (List ℕ)) (count : ℕ) → Told (change_of old old count count) []
-untold old count = record { whole = λ calm. Appends-nil old; part = ([], ([], refl), Appends-nil old) }
-
 -- ---- the log
 
 module _ (words : List (List ℕ)) (asked : Asked) (log : Prefix) (held : Option (List ℕ)) (of : ℕ) where

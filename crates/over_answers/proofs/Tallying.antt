@@ -1,7 +1,7 @@
 -- The tallies of questions over processes, one after the other.
 use Rattle.std.proofs.Common.{◌≡◌, ℕ, zero, suc, ◌+◌, ◌≤◌, ◌<◌, List, [], ◌∷◌, ◌++◌, length, map, take, Option, None, ap, sym, subst, ◌∙◌, arith}
 use Rattle.std.specs.List.{slice_index_or}
-use Rattle.std.proofs.lemmas.List.{length-map, take_all}
+use Rattle.std.proofs.lemmas.List.{length-map}
 use Rattle.pota_base.specs.declared.fault.Refused.{Refused}
 use Rattle.pota_base.specs.declared.fault.Refused.TheVariants as refused
 use Rattle.part_pulls.specs.declared.observed.Observed.{Observed}
@@ -50,6 +50,3 @@ module _ {S : Type 0} (f : S → List ℕ) (items : List S) (i : ℕ) (seen : Ob
       })
   stopped refused.NoMemory made are stops =
       subst (λ (r : Refused NumberedStop). Refuses r (IsFirstStop seen (map f items))) (sym are) _
-
-pub all_tallied : {S : Type 0} (f : S → List ℕ) (items : List S) (i : ℕ) (seen : Observed) (ts : List (Option Tallied)) → AreTallies seen (map f (take i items)) ts → length items ≤ i → AreTallies seen (map f items) ts
-all_tallied f items i seen ts are past = subst (λ (xs : List _). AreTallies seen (map f xs) ts) (take_all i items past) are

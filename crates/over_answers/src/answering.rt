@@ -4,9 +4,9 @@ ghost use Rattle.over_answers.specs.Tallies.{AreNamedBy, AreTallies, IsComeTo, I
 ghost use Rattle.over_answers.specs.Tallies.{IsNamedBy, IsStopOf, Refuses};
 ghost use Rattle.over_answers.specs.inside.Answering.{RefusesOne, numbered_stop};
 ghost use Rattle.part_pulls.specs.Observing.{clocks_seen};
-ghost use Rattle.question_outcomes.specs.Telling.{HasSystem};
+ghost use Rattle.instance_outcomes.specs.PassedOn.{HasSystem};
 ghost use Rattle.std.specs.Prelude.{◌≡◌, ◌≤◌, ◌<◌, length, map, string_bytes, IfErr, IfOk};
-ghost use Rattle.pota_base.specs.Limits.{most_processes};
+ghost use Rattle.pota_base.specs.Limits.{most_processes, most_questions};
 
 use instance_outcomes::{OverStop, Tally, answer_over};
 use part_pulls::Observed;
@@ -61,7 +61,7 @@ fn answer_one<R: Threads + Sync, G: Gate, L: Ledger>(
 
 // Why the question at this index has no answer.
 fn numbered(index: usize, stop: Refused<OverStop>) -> Refused<NumberedStop>
-    requires { index < 64 }
+    requires { index < most_questions }
     ensures { result ≡ numbered_stop index stop }
 {
     match stop {
@@ -87,7 +87,7 @@ pub fn answer_overs<R: Threads + Sync, G: Gate, L: Ledger>(
 ) -> Result<List<Option<Tallied>>, Refused<NumberedStop>>
     requires seen { IsBare seen.now }
     requires procs { length (header_of seen.now).procs ≤ most_processes }
-    requires few { length texts.now ≤ 64 }
+    requires few { length texts.now ≤ most_questions }
     requires named { AreNamedBy (map string_bytes texts.now) overs.now }
     ensures tallies { IfOk result (AreTallies seen.now (map string_bytes texts.now)) }
     ensures fault { IfErr result

@@ -1,16 +1,12 @@
 -- The lengths of a shape, of which some are raised.
-use Rattle.std.proofs.Common.{◌≡◌, ℕ, zero, suc, ◌+◌, ◌-◌, ◌<◌, ◌≤◌, List, [], ◌∷◌, length, take, get_or, set, sum, refl, sym, ap, ◌∙◌, subst, arith, inl, inr, below_more}
-use Rattle.std.proofs.lemmas.Bool.{cases_eq, cases_lt}
-use Rattle.std.proofs.lemmas.List.{length-set, get_or-set_same, get_or-set_other, take_all, take-set-le, ext_get_or}
-use Rattle.std.proofs.lemmas.List.Sums.{sum_by-cons, sum_by-take-le}
+use Rattle.std.proofs.Common.{◌≡◌, ℕ, zero, suc, ◌+◌, ◌-◌, ◌<◌, ◌≤◌, List, [], ◌∷◌, length, take, get_or, set, sum, sym, ap, ◌∙◌, arith, inl, inr, below_more}
+use Rattle.std.proofs.lemmas.Bool.{cases_lt}
+use Rattle.std.proofs.lemmas.List.{length-set, get_or-set_same, get_or-set_other, take-set-le, ext_get_or}
+use Rattle.std.proofs.lemmas.List.Sums.{sum_by-cons}
 use Rattle.pota_base.specs.Shape.{IsShape, AreStarts}
-use Rattle.pota_base.specs.Limits.{most_events}
 
 sum-cons : (x : ℕ) (xs : List ℕ) → sum (x ∷ xs) ≡ x + sum xs
 sum-cons x xs = sum_by-cons (λ n. n) x xs
-
-sum-take-le : (xs : List ℕ) (i : ℕ) → sum (take i xs) ≤ sum xs
-sum-take-le xs i = sum_by-take-le (λ n. n) xs i
 
 -- ---- the starts
 
@@ -20,22 +16,6 @@ pub record RaisedSoFar (old : List ℕ) (first more i : ℕ) (now : List ℕ) : 
   pub below : (k : ℕ) → k < first → get_or now k 0 ≡ get_or old k 0
   pub raised : (k : ℕ) → first ≤ k → k < i → get_or now k 0 ≡ get_or old k 0 + more
   pub above : (k : ℕ) → first ≤ k → i ≤ k → get_or now k 0 ≡ get_or old k 0
-
-pub raised_none : (old : List ℕ) (first more : ℕ) → RaisedSoFar old first more first old
-raised_none old first more = record { count = refl; below = λ k h. refl; raised = λ k h lt. absurd (omega arith); above = λ k h le. refl }
-
-pub raised_more : (old now : List ℕ) (first more i new : ℕ) → RaisedSoFar old first more i now → first ≤ i → i < length now → new ≡ get_or now i 0 + more
-    → RaisedSoFar old first more (i + 1) (set now i new)
-raised_more old now first more i new h le lt is = record {
-  count = length-set now i new ∙ h.count;
-  below = λ k b. get_or-set_other now i k new 0 (λ e. absurd (omega arith)) ∙ h.below k b;
-  raised = λ k f. λ b. elim (cases_eq k i) [
-    | inl same ↦ subst (λ (j : ℕ). get_or (set now i new) j 0 ≡ get_or old j 0 + more) (sym same)
-        (get_or-set_same now i new 0 lt ∙ is ∙ ap (λ (n : ℕ). n + more) (h.above i le (omega arith)))
-    | inr other ↦ get_or-set_other now i k new 0 other ∙ h.raised k f (omega arith)
-  ];
-  above = λ k f. λ b. get_or-set_other now i k new 0 (λ e. absurd (omega arith)) ∙ h.above k f (omega arith);
-}
 
 -- the sum of a front that has the raised number
 sum_behind : (xs : List ℕ) (p q v : ℕ) → p < length xs → p < q → get_or xs p 0 ≤ v → sum (take q (set xs p v)) ≡ sum (take q xs) + (v - get_or xs p 0)
@@ -57,16 +37,6 @@ starts_raised lens starts starts' p v h there le same below above = record {
   ];
 }
 
--- no start is raised above the sum
-pub starts_few : (lens starts : List ℕ) (p v k : ℕ) → AreStarts lens starts → p < length lens → get_or lens p 0 ≤ v → IsShape (set lens p v) → k < length starts
-    → get_or starts k 0 + (v - get_or lens p 0) ≤ most_events
-starts_few lens starts p v k h there le shape within =
-    let all = length lens in
-    let whole : sum (set lens p v) ≡ sum lens + (v - get_or lens p 0) =
-    ap sum (sym (take_all all (set lens p v) (omega (arith, length-set lens p v)))) ∙ sum_behind lens p all v there there le
-    ∙ ap (λ (xs : List ℕ). sum xs + (v - get_or lens p 0)) (take_all all lens (omega arith)) in
-    omega (arith, h.each k (omega (arith, h.count)), sum-take-le lens k, whole, shape.events)
-
 -- ---- all lengths, one by one
 
 -- the lengths below i are the new ones, the others those from before
@@ -74,9 +44,6 @@ pub record MeasuredBelow (old lens : List ℕ) (i : ℕ) (now : List ℕ) : Type
   pub count : length now ≡ length old
   pub below : (p : ℕ) → p < i → get_or now p 0 ≡ get_or lens p 0
   pub above : (p : ℕ) → i ≤ p → get_or now p 0 ≡ get_or old p 0
-
-pub measured_none : (old lens : List ℕ) → MeasuredBelow old lens 0 old
-measured_none old lens = record { count = refl; below = λ p h. absurd (omega arith); above = λ p h. refl }
 
 pub measured_more : (old lens now : List ℕ) (i len : ℕ) → MeasuredBelow old lens i now → i < length now → len ≡ get_or lens i 0 → MeasuredBelow old lens (i + 1) (set now i len)
 measured_more old lens now i len h lt is = record {

@@ -1,5 +1,5 @@
 -- A source and a sink in memory, for tests: how much a call moves, and which calls fail.
-use Rattle.std.specs.Prelude.{ℕ, ◌+◌, ◌-◌, ◌^◌, min, Bool, List, drop, ◌++◌, ◌==◌}
+use Rattle.std.specs.Prelude.{ℕ, ◌+◌, ◌-◌, ◌^◌, min, Bool, List, [], drop, ◌++◌, ◌==◌}
 use Rattle.std.specs.List.{list_any}
 
 -- a source: the bytes that are still to come, its counts, and how it behaves
@@ -18,6 +18,16 @@ pub record SinkState : Type 0 where
   pub most : ℕ
   pub room : ℕ
   pub failing : List ℕ
+
+-- a source from which nothing was read yet
+abbrev pub fresh_source : List ℕ → ℕ → List ℕ → SourceState
+fresh_source bytes most failing =
+    record { bytes = bytes; faults = 0; calls = 0; most = most; failing = failing }
+
+-- a sink to which nothing was written yet
+abbrev pub fresh_sink : (room most : ℕ) → List ℕ → SinkState
+fresh_sink room most failing =
+    record { bytes = []; faults = 0; calls = 0; most = most; room = room; failing = failing }
 
 -- one more, where a count of 64 bits has room for it
 abbrev pub next : ℕ → ℕ

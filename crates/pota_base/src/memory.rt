@@ -2,13 +2,13 @@
 //!
 //! Each call moves as much as it may: the least of what there is, what there is room for, and the
 //! most that a call moves. Calls are numbered from 1.
-ghost use Rattle.std.specs.Prelude.{◌≡◌, ◌⊎◌, ◌-◌, [], ℕ, ◌+◌, ◌<◌, ◌≤◌, ◌++◌, ◌==◌, ◌↔◌, min};
+ghost use Rattle.std.specs.Prelude.{◌≡◌, ◌⊎◌, ◌-◌, ℕ, ◌+◌, ◌<◌, ◌≤◌, ◌++◌, ◌==◌, ◌↔◌, min};
 ghost use Rattle.std.specs.Prelude.{length, take, drop, IfOk, IsErr, OnOk, OnErr, Option, Some};
 ghost use Rattle.std.specs.Prelude.{true};
 ghost use Rattle.std.specs.Io.{ReadsAtMost};
 ghost use Rattle.std.specs.Io.KnownBytes.{Appends, ReadConsumes};
 ghost use Rattle.pota_base.specs.Memory.{SourceState, SinkState, is_named, given, given_up, taken};
-ghost use Rattle.pota_base.specs.Memory.{refused};
+ghost use Rattle.pota_base.specs.Memory.{refused, fresh_source, fresh_sink};
 ghost use Rattle.pota_base.specs.Outside.{HasCause, Rose, WriteHolds};
 
 use crate::{Failed, NoMemory, Sink, Source};
@@ -60,8 +60,7 @@ impl MemSource {
         failing: &[u64],
     ) -> Result<MemSource, NoMemory>
         requires { 1 ≤ most }
-        ensures { IfOk result (λ s. s ≡ record
-            { bytes = bytes.now; faults = 0; calls = 0; most = most; failing = failing.now }) }
+        ensures { IfOk result (λ s. s ≡ fresh_source bytes.now most failing.now) }
     {
         Ok(MemSource {
             bytes: bytes.to_vec(alloc)?,
@@ -138,8 +137,7 @@ impl MemSink {
         failing: &[u64],
     ) -> Result<MemSink, NoMemory>
         requires { 1 ≤ most }
-        ensures { IfOk result (λ s. s ≡ record
-            { bytes = []; faults = 0; calls = 0; most = most; room = room; failing = failing.now }) }
+        ensures { IfOk result (λ s. s ≡ fresh_sink room most failing.now) }
     {
         Ok(MemSink {
             bytes: vec![in alloc; 0u8; room]?,

@@ -50,9 +50,6 @@ none_from : (pulls : List Pull) (processes : ℕ) → pulls_from_first pulls 0 p
 none_from pulls zero = refl
 none_from pulls (suc processes) = omega (arith, none_from pulls processes)
 
-le_or_gt : (a b : ℕ) → (a ≤ b) ⊎ (b < a)
-le_or_gt a b = grind arith
-
 -- one pull more counts once, at its source
 one_more : (pulls : List Pull) (count processes : ℕ)
     → ((pulls_from_first pulls (suc count) processes ≡ pulls_from_first pulls count processes) × (processes ≤ source_in pulls count))

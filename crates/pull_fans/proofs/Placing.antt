@@ -1,13 +1,11 @@
 -- The places of pulls among fans, and what holds of each pull of a fan.
-use Rattle.std.proofs.Common.{◌≡◌, ℕ, ◌+◌, ◌^◌, ◌<◌, ◌⊎◌, inl, inr, Some, List, [], ◌∷◌, ◌++◌, All, length, get_or, map, take, refl, arith, sym, ap, ◌∙◌, subst, length-append, append_assoc, append-nil}
+use Rattle.std.proofs.Common.{◌≡◌, ℕ, ◌+◌, ◌^◌, ◌<◌, ◌⊎◌, inl, inr, List, [], ◌∷◌, ◌++◌, All, length, get_or, map, take, arith, sym, ap, ◌∙◌, subst, length-append, append_assoc}
 use Rattle.std.specs.List.{range_with_len}
-use Rattle.std.specs.Prelude.{slice_get}
 use Rattle.std.proofs.lemmas.List.{get_or_push, get_or_default, take_more, flat_map_more}
 use Rattle.std.proofs.lemmas.List.Concat.{get_or-flat_map}
 use Rattle.std.proofs.lemmas.List.Folds.{length-flat_map-take}
 use Rattle.std.proofs.lemmas.List.FromFn.{map-range_with_len_more}
 use Rattle.std.proofs.lemmas.List.Elements.{All-get_or}
-use Rattle.std.proofs.lemmas.Option.{get_or_from_slice_get}
 use Rattle.std.proofs.Math.ListN.{get_or-append}
 use Rattle.pota_base.specs.Shape.{IsShape}
 use Rattle.pull_system.specs.declared.pull.Pull.{Pull}
@@ -20,9 +18,6 @@ use Rattle.pull_system.proofs.Sums.{component_le}
 
 within_one : (i n : ℕ) → i < n + 1 → (i < n) ⊎ (i ≡ n)
 within_one i n h = grind arith
-
-pub places_none : (fans : List FanView) → ArePlaces fans [] []
-places_none fans = record { count = refl; each = λ k there. absurd (omega arith) }
 
 places_push : (fans : List FanView) (places : List Place) (pulls : List Pull) (place : Place) (pull : Pull) → ArePlaces fans places pulls → IsPlaceOf fans place pull → ArePlaces fans (places ++ place ∷ []) (pulls ++ pull ∷ [])
 places_push fans places pulls place pull are is = record {
@@ -51,9 +46,6 @@ places_next fans places now pulls fan place are more there is inside =
     subst P (sym more) (subst Q list (places_push fans places (pulls ++ map (pull_of_fan fan) (range_with_len 0 place.index)) place (pull_of_fan fan place.index) are
     record { fan = there; index = omega (arith, inside, ap (λ (f : FanView). length f.targets) is); is = ap (λ (f : FanView). pull_of_fan f place.index) is }))
 
-pub places_first : (fans : List FanView) (places : List Place) (pulls : List Pull) (fan : FanView) → ArePlaces fans places pulls → ArePlaces fans places (pulls ++ map (pull_of_fan fan) (range_with_len 0 0))
-places_first fans places pulls fan are = let P : List Pull → Type 0 = ArePlaces fans places in subst P (sym (append-nil pulls)) are
-
 -- the fan that a loop has come to
 pub item_is : (fans items : List FanView) (number : ℕ) (fan : FanView) → items ≡ fans → number < length items → fan ≡ get_or items number fan → fan_at fans number ≡ fan
 item_is fans items number fan same there is = ap (λ (fs : List FanView). get_or fs number no_fan) (sym same) ∙ get_or_default items number no_fan fan there ∙ sym is
@@ -63,21 +55,6 @@ pub pulls_more : (fans : List FanView) (number : ℕ) (fan : FanView) → number
 pulls_more fans number fan there is =
     ap pulls_of_fans (take_more fans number no_fan there) ∙ sym (flat_map_more pulls_of_fan [] (take number fans) (fan_at fans number))
     ∙ ap (λ (f : FanView). pulls_of_fans (take number fans) ++ pulls_of_fan f) is
-
--- a pull that was looked up by its place
-pub record IsFound (fans : List FanView) (place : Place) (fan : FanView) (pull : Pull) : Type 0 where
-  pub index : place.index < length fan.targets
-  pub is : pull_of_fan fan place.index ≡ pull
-
-pub found_fan : (fans : List FanView) (places : List Place) (pulls : List Pull) (k : ℕ) (place : Place) → ArePlaces fans places pulls → k < length pulls → slice_get places k ≡ Some place → IsPlaceOf fans place (get_or pulls k no_pull)
-found_fan fans places pulls k place are there found =
-    let P : Place → Type 0 = λ p. IsPlaceOf fans p (get_or pulls k no_pull) in
-    subst P (get_or_from_slice_get places k place no_place found) (are.each k there)
-
-pub found_pull : (fans : List FanView) (place : Place) (pull : Pull) (fan : FanView) → IsPlaceOf fans place pull → slice_get fans place.fan ≡ Some fan → IsFound fans place fan pull
-found_pull fans place pull fan is found =
-    let P : FanView → Type 0 = λ f. IsFound fans place f pull in
-    subst P (get_or_from_slice_get fans place.fan fan no_fan found) record { index = is.index; is = is.is }
 
 -- what holds of each pull holds of each pull of a fan
 pub of_each : (P : Pull → Type 0) (fans : List FanView) (number i : ℕ) → number < length fans → i < length (fan_at fans number).targets → All P (pulls_of_fans fans) → P (pull_of_fan (fan_at fans number) i)

@@ -1,7 +1,7 @@
 -- Rows that are raised to what one value after another, one run of targets after another and one fan after another asks.
 use Rattle.std.proofs.Common.{◌≡◌, ℕ, zero, suc, ◌+◌, ◌-◌, ◌*◌, ◌<◌, ◌≤◌, ◌⊎◌, inl, inr, List, [], ◌++◌, length, get_or, max, take, drop, replicate, refl, arith, sym, ap, ◌∙◌, subst, length-append}
 use Rattle.std.specs.Prelude.{slice_index}
-use Rattle.std.proofs.lemmas.List.{length-take, length-drop, length-replicate, get_or-append-add, get_or-append_right, get_or-take, get_or-drop}
+use Rattle.std.proofs.lemmas.List.{length-take, length-drop, get_or-append-add, get_or-append_right, get_or-take, get_or-drop}
 use Rattle.std.proofs.lemmas.List.FromFn.{get_or-map-range_with_len, length-map-range_with_len}
 use Rattle.std.proofs.lemmas.Nat.{mul-add-lt, same_from_place}
 use borrow.Rule.Slice.PartMut.{put_mid, same_len_mid}
@@ -133,13 +133,6 @@ pub zeros : (n i : ℕ) → slice_index (replicate n 0) i ≡ 0
 zeros zero i = refl
 zeros (suc n) zero = refl
 zeros (suc n) (suc i) = zeros n i
-
-pub ask_rows_none : (lens : List ℕ) (process values : ℕ) (rows : List ℕ) → rows ≡ replicate (values * length lens) 0 → AreAskRows record { lens = lens; pulls = [] } process values rows
-ask_rows_none lens process values rows same = record {
-  size = ap length same ∙ length-replicate (values * length lens) 0;
-  covers = λ x k inside below. absurd (omega arith);
-  asked = λ x target inside there. inl (ap (λ xs. get_or xs (x * length lens + target) 0) same ∙ zeros (values * length lens) (x * length lens + target));
-}
 
 -- a number of the joined pulls is one of the first or one of the fan's
 pub data JoinedAt (pulls : List Pull) (fan : FanView) (k : ℕ) : Type 0 where

@@ -2,7 +2,7 @@
 use Rattle.std.proofs.Common.{◌≡◌, ℕ, zero, suc, ◌+◌, ◌-◌, ◌<◌, ◌≤◌, ◌⊎◌, inl, inr, min, List, [], ◌∷◌, Bool, Option, Some, None, length, sum, get_or, drop, drop-cons, refl, arith, sym, ap, ◌∙◌, subst}
 use Rattle.std.specs.Prelude.{nat_le, if◌then◌else◌}
 use Rattle.std.proofs.lemmas.Bool.Decides.{leb_tells}
-use Rattle.std.proofs.lemmas.List.{get_or_past, drop_all}
+use Rattle.std.proofs.lemmas.List.{get_or_past}
 use Rattle.std.proofs.lemmas.List.Sums.{sum_by-cons}
 use Rattle.pota_base.specs.Shape.{IsShape}
 use Rattle.pull_system.specs.Vector.{IsAtMost, IsVector}
@@ -36,9 +36,6 @@ cut_within lens c i = elim (lt_or_le i (length lens)) [ inl there ↦ omega (ari
 
 cut_below : (lens c : List ℕ) (i : ℕ) → get_or (cut lens c) i 0 ≤ get_or lens i 0 + 1
 cut_below lens c i = elim (lt_or_le i (length lens)) [ inl there ↦ omega (arith, get_or-cut lens c i there) | inr past ↦ omega (arith, get_or_past (cut lens c) i 0 (omega (arith, length-cut lens c))) ]
-
-cut_above : (lens v c : List ℕ) → IsVector lens v → (i : ℕ) → get_or v i 0 ≤ get_or c i 0 → get_or v i 0 ≤ get_or (cut lens c) i 0
-cut_above lens v c vector i less = elim (lt_or_le i (length lens)) [ inl there ↦ omega (arith, get_or-cut lens c i there, vector.within i) | inr past ↦ omega (arith, get_or_past v i 0 (omega (arith, vector.size))) ]
 
 -- a closed vector of the later system, cut off, is closed in the earlier one
 pub cut_closed : (before after : SystemView) → IsSystem before → Grows before after → (start v c : List ℕ) → IsVector before.lens v → IsAtMost start v → IsClosedFrom after start c
@@ -239,6 +236,3 @@ module _ (olds lens : List ℕ) (row at before left : ℕ) (size : length olds �
           count = omega (arith, walk.count, ap sum (drop-cons olds at 0 (omega arith)), sum_by-cons (λ (n : ℕ). n) (get_or olds at 0) (drop (suc at) olds), ap (λ n. sum (drop n olds)) (let e : suc at ≡ at + 1 = omega arith in e));
         }
       ]
-
-pub walk_end : (olds lens : List ℕ) (row at before left : ℕ) → length olds ≡ length lens → length lens ≤ at → IsWalk olds lens row at before left → old_row olds lens row ≡ None
-walk_end olds lens row at before left size past walk = walk.same ∙ ap (λ os. old_row_from before os (drop at lens) left) (drop_all at olds (omega arith))

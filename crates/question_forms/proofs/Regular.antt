@@ -30,10 +30,6 @@ pub earlier_second : (a b : Option FormulaFault) → earlier a b ≡ None → b 
 earlier_second None b h = h
 earlier_second (Some f) b h = absurd (cc)
 
-pub earlier_some : (a b : Option FormulaFault) (f : FormulaFault) → a ≡ Some f → earlier a b ≡ Some f
-earlier_some None b f h = absurd (cc)
-earlier_some (Some g) b f h = h
-
 pub behind_none : (a b : Option FormulaFault) → a ≡ None → earlier a b ≡ b
 behind_none None b h = refl
 behind_none (Some f) b h = absurd (cc)
@@ -113,12 +109,6 @@ none_small n none = elim (cases_Bool (nat_lt 63 (node_count n))) [
 
 pub small_if : (n : Node) → nat_le (node_count n) 63 ≡ true → IsSmall n
 small_if n h = leb-true (node_count n) 63 h
-
-pub large_fault : (n : Node) → (IsSmall n → ⊥) → size_fault n ≡ fault_at code.TooManyNodes 0
-large_fault n large = elim (cases_Bool (nat_lt 63 (node_count n))) [
-  | inl is ↦ rw is refl
-  | inr is ↦ absurd (large (ltb-false 63 (node_count n) is))
-]
 
 -- a local formula has a local negation
 pub local_regular : (f : Formula) → IsTrue (is_local f) → IsRegular (Not f)

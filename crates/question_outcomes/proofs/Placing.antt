@@ -1,38 +1,17 @@
 -- The places of parts that hold nowhere, one after the other.
-use Rattle.std.proofs.Common.{◌≡◌, ℕ, ◌+◌, Bool, true, false, List, [], ◌∷◌, ◌++◌, map, length, Option, Some, None, refl, sym, ◌∙◌, ap, subst, arith, inl, inr, append_assoc, append-nil}
+use Rattle.std.proofs.Common.{◌≡◌, ℕ, ◌+◌, true, false, List, [], ◌∷◌, ◌++◌, map, length, refl, sym, ◌∙◌, ap, subst, arith, inl, inr, append_assoc, append-nil}
 use Rattle.std.proofs.lemmas.List.{map-append, length-map}
-use Rattle.run_model.specs.Cut.{Cut}
 use Rattle.run_model.specs.Run.{Run}
 use Rattle.question_meaning.specs.Question.{Holds, Can}
 use Rattle.rctl_parts.specs.Pieces.{Piece, atom, temporal}
 use Rattle.rctl_parts.specs.Spelled.{Names, atom_formula}
 use Rattle.part_pulls.specs.declared.observed.Observed.{Observed}
 use Rattle.part_pulls.specs.Observing.{Reading, AreAnswers, run_seen, names_seen}
-use Rattle.least_holding.specs.Least.{IsLeastHolding, are_atoms}
 use Rattle.question_outcome.specs.Outcomes.{PlacedPart, placed_parts, placed, AreNowhere}
 use Rattle.question_outcome.specs.declared.outcome.PartPlace.{PartPlace}
 use Rattle.question_outcomes.specs.inside.Nowhere.{operand_of, TellsNowhere, AddsNowhere, AreNowhereIn}
 
 -- ---- one part
-
--- it holds nowhere, as the least cut says
-pub tells_nowhere : (seen : Observed) (one : List Piece) → are_atoms one ≡ true → IsLeastHolding seen one None → TellsNowhere seen one true
-tells_nowhere seen [] atoms least = tt
-tells_nowhere seen (atom a ∷ []) atoms least = λ reading are c consistent sat. least reading are c (consistent, (sat, tt))
-tells_nowhere seen (temporal o qs ∷ []) atoms least = absurd (cc)
-tells_nowhere seen (p ∷ q ∷ ps) atoms least = tt
-
-tells_somewhere : (seen : Observed) (one : List Piece) → are_atoms one ≡ true → (c : Cut) → IsLeastHolding seen one (Some c) → TellsNowhere seen one false
-tells_somewhere seen [] atoms c least = tt
-tells_somewhere seen (atom a ∷ []) atoms c least = λ reading are. let member = (least reading are).member in (c, member.0, member.1.0)
-tells_somewhere seen (temporal o qs ∷ []) atoms c least = tt
-tells_somewhere seen (p ∷ q ∷ ps) atoms c least = tt
-
-pub tells_nothing_of : (seen : Observed) (one : List Piece) → are_atoms one ≡ false → TellsNowhere seen one false
-tells_nothing_of seen [] atoms = tt
-tells_nothing_of seen (atom a ∷ []) atoms = absurd (cc)
-tells_nothing_of seen (temporal o qs ∷ []) atoms = tt
-tells_nothing_of seen (p ∷ q ∷ ps) atoms = tt
 
 -- ---- lists of places
 
@@ -105,15 +84,7 @@ pub adds_untold : (seen : Observed) (n : ℕ) (ps : List Piece) (p : Piece) (old
 adds_untold seen n ps p old new before tells =
     subst (λ (places : List PartPlace). AddsNowhere seen n 1 (ps ++ p ∷ []) old places) (append-nil new) (adds_part seen n 1 ps p old new [] before (no_place seen n (1 + length ps) p tells))
 
-pub tells_by : (seen : Observed) (one : List Piece) → are_atoms one ≡ true → (least : Option Cut) → IsLeastHolding seen one least → (nowhere : Bool)
-    → (least ≡ None → nowhere ≡ true) → ((c : Cut) → least ≡ Some c → nowhere ≡ false) → TellsNowhere seen one nowhere
-tells_by seen one atoms None least nowhere none some = subst (TellsNowhere seen one) (sym (none refl)) (tells_nowhere seen one atoms least)
-tells_by seen one atoms (Some c) least nowhere none some = subst (TellsNowhere seen one) (sym (some c refl)) (tells_somewhere seen one atoms c least)
-
 -- ---- one disjunct more
-
-pub nowhere_none : (seen : Observed) → AreNowhereIn seen [] []
-nowhere_none seen = λ reading are. tt
 
 pub nowhere_more : (seen : Observed) (ds : List (List Piece)) (d : List Piece) (before after : List PartPlace) → AreNowhereIn seen ds before → AddsNowhere seen (length ds + 1) 1 (operand_of d) before after
     → AreNowhereIn seen (ds ++ d ∷ []) after

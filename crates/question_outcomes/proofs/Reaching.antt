@@ -107,9 +107,6 @@ pub record AreFalse (seen : Observed) (ds : List (List Piece)) (ws : List Witnes
   pub unsat : (reading : Reading) → AreAnswers seen reading → SatDisjuncts (run_seen seen reading) (part_formulas (names_seen seen reading) ds) (initial (clocks_seen seen)) → ⊥
   pub texts : (reading : Reading) → AreAnswers seen reading → AreTextsOfFalse (run_seen seen reading) 1 (part_formulas (names_seen seen reading) ds) ws
 
-pub false_none : (seen : Observed) → AreFalse seen [] []
-false_none seen = record { unsat = λ reading are h. h; texts = λ reading are. tt }
-
 pub false_more : (seen : Observed) (ds : List (List Piece)) (d : List Piece) (ws : List WitnessText) (w : WitnessText) → AreFalse seen ds ws → IsReached seen (length ds + 1) d (Nowhere w)
     → AreFalse seen (ds ++ d ∷ []) (ws ++ w ∷ [])
 false_more seen ds d ws w before is = record { unsat = unsat; texts = texts }

@@ -18,9 +18,6 @@ use Rattle.pull_system.proofs.Growing.{grown_row_below}
 use Rattle.pull_system.proofs.Starts.{starts-place, start_of-vector, start_of-bottom, start_of-event, length-start_of, length-first_rows, first_rows-place, first_rows-within}
 use Rattle.raise_machine.specs.Bounds.{IsBound, AreBounds, word_at, raised, are_covered, has_start}
 
-pub bound_less : (system : SystemView) (place m n : ℕ) → m ≤ n → IsBound system place n → IsBound system place m
-bound_less system place m n less bound = record { each = λ row process there same c closed. omega (arith, bound.each row process there same c closed) }
-
 pub bound_max : (system : SystemView) (place m n : ℕ) → IsBound system place m → IsBound system place n → IsBound system place (max m n)
 bound_max system place m n bound_m bound_n = record { each = λ row process there same c closed. omega (arith, bound_m.each row process there same c closed, bound_n.each row process there same c closed) }
 

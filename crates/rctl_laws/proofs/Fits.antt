@@ -82,10 +82,6 @@ Next (Some fault) next = Unit {0}
 Next None None = Unit {0}
 Next None (Some s) = Fits s
 
-next-none : (next : Option State) → ((s : State) → next ≡ Some s → Fits s) → Next None next
-next-none None h = tt
-next-none (Some s) h = h s refl
-
 -- a level opens, or a node stands, where there is room
 if-level : (levels here : ℕ) (next : Option State) → (levels < deepest → Next None next) → Next (level_opens levels here) next
 if-level levels here next h = cond_both (nat_lt levels deepest) None (Some (too_deep_at here)) (λ b. Next b next) (λ e. h (ltb-true levels deepest e)) (λ e. tt)

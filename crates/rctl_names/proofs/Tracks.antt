@@ -124,14 +124,6 @@ if_other false f h = refl
 pub watch_free : (s : Watched) (i k : ℕ) (w : Place) → place_of s.names w.name ≡ Some k → watch_fault s i w ≡ None → is_other (get_or s.on k None) i ≡ false
 watch_free s i k w found free = if_other (is_other (get_or s.on k None) i) _ (ap (watch_fault_at s i w) (sym found) ∙ free)
 
-or_false : (a b : Bool) → a ≡ false → a || b ≡ b
-or_false true b h = absurd (false≢true (sym h))
-or_false false b h = refl
-
-or_true : (a b : Bool) → a ≡ true → a || b ≡ true
-or_true true b h = refl
-or_true false b h = absurd (false≢true h)
-
 pub put_found : (s : Watched) (i k : ℕ) (w : Place) → place_of s.names w.name ≡ Some k → put s i w ≡ record { names = s.names; on = set s.on k (Some i) }
 put_found s i k w found = ap (put_at s i) found
 

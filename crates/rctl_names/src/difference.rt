@@ -1,10 +1,10 @@
 //! Differences of counters with numbers in the place of names.
 ghost use Rattle.rctl_class.specs.NamedParts.{diff_at_least, diff_at_most};
-ghost use Rattle.rctl_names.specs.inside.Numbers.{counter_fault, difference_fault};
-ghost use Rattle.rctl_names.specs.Resolving.{piece_in, process_in, variable_in};
+ghost use Rattle.rctl_names.specs.inside.Numbers.{counter_fault};
+ghost use Rattle.rctl_names.specs.inside.Resolving.{FaultsOf, IsPartIn};
+ghost use Rattle.rctl_names.specs.Resolving.{process_in, variable_in};
 ghost use Rattle.rctl_names.specs.inside.Seen.{header_names};
 ghost use Rattle.rctl_parse.specs.Reading.{Faults};
-ghost use Rattle.rctl_parts.specs.Pieces.{piece_of};
 ghost use Rattle.std.specs.Prelude.{◌≡◌, MatchResult, None, Some};
 
 use crate::numbers::{process_number, variable_number};
@@ -46,12 +46,11 @@ pub fn at_most(
     right: &Place,
     k: i128,
 ) -> Result<Part, Stop>
-    ensures { MatchResult result (λ made. (difference_fault (header_names scope.now)
-        left_process.now left.now right_process.now right.now ≡ None) × (piece_of made ≡ piece_in
-        (header_names scope.now)
-        (diff_at_most left_process.now left.now right_process.now right.now k))) (λ stop. Faults
-        stop (λ f. difference_fault (header_names scope.now) left_process.now left.now
-        right_process.now right.now ≡ Some f)) }
+    ensures { MatchResult result
+        (IsPartIn (header_names scope.now)
+        (diff_at_most left_process.now left.now right_process.now right.now k))
+        (FaultsOf (header_names scope.now)
+        (diff_at_most left_process.now left.now right_process.now right.now k)) }
 {
     let left = resolve_counter(scope, left_process, left)?;
     let right = resolve_counter(scope, right_process, right)?;
@@ -74,12 +73,11 @@ pub fn at_least(
     right: &Place,
     k: i128,
 ) -> Result<Part, Stop>
-    ensures { MatchResult result (λ made. (difference_fault (header_names scope.now)
-        left_process.now left.now right_process.now right.now ≡ None) × (piece_of made ≡ piece_in
-        (header_names scope.now)
-        (diff_at_least left_process.now left.now right_process.now right.now k))) (λ stop. Faults
-        stop (λ f. difference_fault (header_names scope.now) left_process.now left.now
-        right_process.now right.now ≡ Some f)) }
+    ensures { MatchResult result
+        (IsPartIn (header_names scope.now)
+        (diff_at_least left_process.now left.now right_process.now right.now k))
+        (FaultsOf (header_names scope.now)
+        (diff_at_least left_process.now left.now right_process.now right.now k)) }
 {
     let left = resolve_counter(scope, left_process, left)?;
     let right = resolve_counter(scope, right_process, right)?;

@@ -19,6 +19,7 @@ ghost use Rattle.rctl_names.specs.Seen.{names_of};
 ghost use Rattle.rctl_parse.specs.Reading.{Faults};
 ghost use Rattle.std.specs.Prelude.{◌≡◌, [], MatchResult, Some};
 
+mod channel;
 mod difference;
 mod exprs;
 mod laws;

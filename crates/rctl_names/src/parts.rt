@@ -10,12 +10,12 @@ ghost use Rattle.rctl_parse.specs.Reading.{Faults};
 ghost use Rattle.rctl_parts.specs.Pieces.{disjuncts_of, piece_of, pieces, pieces_of};
 ghost use Rattle.std.specs.Prelude.{◌≡◌, MatchResult, None, Some};
 
-use crate::difference::{at_least, at_most};
 use crate::exprs::resolve_expr;
 use crate::numbers::process_number;
 use crate::process::Process;
 use crate::scope::Scope;
 use crate::watches::Watches;
+use crate::{channel, difference};
 use pota_base::List;
 use rctl_class::{NamedExpr, NamedPart, Stop};
 use rctl_grammar::{Operator, Place};
@@ -68,6 +68,25 @@ fn resolve_constant(
     })
 }
 
+/// A local expression over the process that is named, or over none.
+fn resolve_local(
+    alloc: Global,
+    scope: &Scope,
+    watches: &mut Watches,
+    process: &Option<Place>,
+    expr: &NamedExpr,
+) -> Result<Part, Stop>
+    ensures { MatchResult result (λ made. IsPieceIn scope.now watches.old watches.new
+        (local process.now (named_expr expr.now)) (piece_of made)) (λ stop. Faults stop (λ f.
+        part_fault (names_in scope.now watches.old) (watched_in watches.old)
+        (local process.now (named_expr expr.now)) ≡ Some f)) }
+{
+    match process {
+        Some(place) => resolve_over(alloc, scope, watches, place, expr),
+        None => resolve_constant(alloc, scope, watches, expr),
+    }
+}
+
 /// The parts of a conjunction, one after the other.
 #[cycle(part)]
 fn resolve_parts(
@@ -105,54 +124,36 @@ fn resolve_part(
         (named_of part.now) ≡ Some f)) }
 {
     match part {
-        NamedPart::Local { process, expr } => match process {
-            Some(place) => resolve_over(alloc, scope, watches, place, expr),
-            None => resolve_constant(alloc, scope, watches, expr),
-        },
+        NamedPart::Local { process, expr } => resolve_local(alloc, scope, watches, process, expr),
         NamedPart::AtMost {
             sender,
             receiver,
             k,
-        } => Ok(Part::AtMost {
-            sender: process_number(scope, sender)?,
-            receiver: process_number(scope, receiver)?,
-            k: *k,
-        }),
+        } => channel::at_most(scope, sender, receiver, *k),
         NamedPart::AtLeast {
             sender,
             receiver,
             k,
-        } => Ok(Part::AtLeast {
-            sender: process_number(scope, sender)?,
-            receiver: process_number(scope, receiver)?,
-            k: *k,
-        }),
-        NamedPart::Never { sender, receiver } => {
-            let _sender = process_number(scope, sender)?;
-            let _receiver = process_number(scope, receiver)?;
-            Ok(Part::Never)
-        }
+        } => channel::at_least(scope, sender, receiver, *k),
+        NamedPart::Never { sender, receiver } => channel::never(scope, sender, receiver),
         NamedPart::DiffAtMost {
             left_process,
             left,
             right_process,
             right,
             k,
-        } => at_most(scope, left_process, left, right_process, right, *k),
+        } => difference::at_most(scope, left_process, left, right_process, right, *k),
         NamedPart::DiffAtLeast {
             left_process,
             left,
             right_process,
             right,
             k,
-        } => at_least(scope, left_process, left, right_process, right, *k),
-        NamedPart::Temporal { operator, parts } => {
-            let parts = resolve_parts(alloc, scope, watches, parts.as_slice())?;
-            Ok(Part::Temporal {
-                operator: *operator,
-                parts,
-            })
-        }
+        } => difference::at_least(scope, left_process, left, right_process, right, *k),
+        NamedPart::Temporal { operator, parts } => Ok(Part::Temporal {
+            operator: *operator,
+            parts: resolve_parts(alloc, scope, watches, parts.as_slice())?,
+        }),
         NamedPart::Next { process, parts } => {
             let number = process_number(scope, process)?;
             let operand = resolve_parts(alloc, scope, watches, parts.as_slice())?;

@@ -5,7 +5,7 @@ ghost use Rattle.std.specs.Prelude.{◌≤◌};
 ghost use Rattle.pota_base.specs.Limits.{most_events};
 
 use crate::run::{Reader, Setting, run};
-use event_log::write_log;
+use log_writing::write_log;
 use pota_base::NoMemory;
 use row_cases::Case;
 use std::alloc::{AllocError, Global};

@@ -64,18 +64,9 @@ within_min e c d h k i = omega (arith, count-min c d i, h i, k i)
 pub max_within : (c d e : Cut) → IsWithin c e → IsWithin d e → IsWithin (max_cut c d) e
 max_within c d e h k i = omega (arith, count-max c d i, h i, k i)
 
-pub min_same : (c : Cut) → min_cut c c ≡ c
-min_same c = same_counts (min_cut c c) c (omega (arith, length-min c c)) (λ i. omega (arith, count-min c c i))
-
-pub max_same : (c : Cut) → max_cut c c ≡ c
-max_same c = same_counts (max_cut c c) c (omega (arith, length-max c c)) (λ i. omega (arith, count-max c c i))
-
 -- the maximum with what is within a cut is the cut, where lengths agree
 pub max_absorbs : (c d : Cut) → length c ≡ length d → IsWithin d c → max_cut c d ≡ c
 max_absorbs c d e h = same_counts (max_cut c d) c (omega (arith, length-max c d)) (λ i. omega (arith, count-max c d i, h i))
-
-pub min_absorbs : (c d : Cut) → length c ≡ length d → IsWithin c d → min_cut c d ≡ c
-min_absorbs c d e h = same_counts (min_cut c d) c (omega (arith, length-min c d)) (λ i. omega (arith, count-min c d i, h i))
 
 pub length-with_next : (c : Cut) (i : ℕ) → length (with_next c i) ≡ length c
 length-with_next c i = length-set c i (count c i + 1)

@@ -102,10 +102,6 @@ cuts_denoted o s low high least greatest c cut = record {
   keeps = edges_listed o s high c (λ p a q e has. row_within (s.row p a) c (cut.rows p a (e.there.0, has)) q);
 }
 
--- the row of an event of c is within c, by the row of the event before it, the past of the event and the edges
-abbrev Kept : Clocks → Slice → Cut → Cut → ℕ → ℕ → Type 0
-Kept o s high c i a = IsEvent c i a → HasWithin (s.row i a) c
-
 kept_next : (o : Clocks) → IsOrder o → (s : Slice) (high : Cut) → Cuts o s high → (c : Cut) → IsConsistent o c → IsWithin c high → EdgesKept o s high c → (i a : ℕ) → IsEvent c i a → HasWithin (previous s i a) c → HasWithin (s.row i a) c
 kept_next o order s high top c k below edges i a ev before =
     let row = cut_of (s.row i a) in

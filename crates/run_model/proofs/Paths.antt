@@ -21,10 +21,6 @@ pub path_rises : (A : Cut → Type 0) (c : Cut) (es : List Cut) (d : Cut) → Pa
 path_rises A c [] d p = subst (λ x. IsWithin c x) p.1 (within_refl c)
 path_rises A c (e ∷ es) d p = within_trans c e d (follows_rises c e p.1) (path_rises A e es d p.2)
 
--- one cut alone is a path
-pub path_stays : (A : Cut → Type 0) (c : Cut) → A c → PathIn A c [] c
-path_stays A c h = (h, refl)
-
 pub path_joined : (A : Cut → Type 0) (c : Cut) (es : List Cut) (d : Cut) (fs : List Cut) (e : Cut) → PathIn A c es d → PathIn A d fs e → PathIn A c (es ++ fs) e
 path_joined A c [] d fs e p q = subst (λ x. PathIn A x fs e) (sym p.1) q
 path_joined A c (x ∷ es) d fs e p q = (p.0, p.1, path_joined A x es d fs e p.2 q)

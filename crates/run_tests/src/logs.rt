@@ -3,8 +3,9 @@ ghost use Rattle.event_log.specs.Laws.{IsLog};
 
 use crate::events::name;
 use event_log::{
-    Assign, Binding, Event, Header, Kind, Log, LogCode, LogFault, Reader, count_events, write_log,
+    Assign, Binding, Event, Header, Kind, Log, LogCode, LogFault, Reader, count_events,
 };
+use log_writing::write_log;
 use pota_base::{Bytes, List, MOST_PROCESSES, NoMemory};
 use std::alloc::Global;
 use std::process::Abort;

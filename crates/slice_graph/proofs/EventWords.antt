@@ -2,12 +2,11 @@
 use Rattle.std.proofs.Common.{◌≡◌, ℕ, zero, suc, ◌+◌, ◌-◌, ◌*◌, ◌/◌, ◌%◌, ◌^◌, ◌<◌, ◌≤◌, List, [], length, get_or, take, drop, sum, slice_range, refl, sym, ap, ◌∙◌, subst, arith, inl, inr}
 use Rattle.std.proofs.lemmas.Bool.{cases_lt}
 use Rattle.std.proofs.lemmas.List.{get_or-take, get_or-drop, get_or_past}
-use Rattle.std.proofs.lemmas.Nat.{div-add-mod', mul-le}
+use Rattle.std.proofs.lemmas.Nat.{div-add-mod'}
 use Rattle.std.proofs.Math.Nat.{mod-lt, mul-le-mul_right, div-lt_iff_lt-mul}
 use Rattle.pota_base.specs.Shape.{HasEvent, row_of}
 use Rattle.pota_base.specs.declared.shape.EventId.{EventId}
 use Rattle.run_model.specs.Cut.{count}
-use Rattle.pota_base.specs.Limits.{most_events}
 use Rattle.causal_order.specs.Blocks.{rows_of}
 use Rattle.causal_order.proofs.Rows.{row_at}
 use Rattle.slice_graph.specs.Views.{SliceView, HasAllRows, no_row, slice_of, last_row}
@@ -44,16 +43,6 @@ block_within v words all rows i first process some is =
     let last : sum (take i v.lens) + (count v.lens i - 1 + 1) ≤ sum v.lens = event_row v i (count v.lens i - 1) process (omega (arith, some)) in
     let within : first + count v.lens i ≤ length v.rows = omega (arith, is, last, some, rows.count) in
     omega (arith, all.size, mul-le-mul_right (length v.lens) within)
-
--- how many words there can be
-pub few_words : (v : SliceView) → HasAllRows v → (n : ℕ) → n ≤ sum v.lens + 1 → n * length v.lens ≤ (most_events + 1) * 32
-few_words v rows n few = mul-le n (length v.lens) (most_events + 1) 32 (omega (arith, few, rows.cuts.shape.events)) (omega (arith, rows.cuts.shape.few))
-
-pub no_events : (v : SliceView) (i : ℕ) (words : List ℕ) → words ≡ [] → count v.lens i ≡ 0 → AreEventWords v i words
-no_events v i words none empty = record {
-  size = ap length none ∙ sym (ap (λ (n : ℕ). n * length v.lens) empty ∙ omega arith);
-  each = λ a j less _. absurd (omega (arith, less, empty));
-}
 
 pub block_words : (v : SliceView) (words : List ℕ) → AreAllWords v words → HasAllRows v → (i first : ℕ) → i < length v.lens → 1 ≤ count v.lens i → first ≡ sum (take i v.lens) + 1
     → AreEventWords v i (slice_range words (first * length v.lens) ((first + count v.lens i) * length v.lens))

@@ -115,9 +115,6 @@ past_row_small lens few row is k = omega (arith, ap (λ (r : List ℕ). get_or r
 
 -- ---- all fans
 
-pub fans_none : (fans : List FanView) → fans ≡ [] → pulls_of_fans fans ≡ []
-fans_none fans none = ap pulls_of_fans none
-
 pub fans_more : (fans now : List FanView) (fan : FanView) → now ≡ fans ++ fan ∷ [] → pulls_of_fans now ≡ pulls_of_fans fans ++ pulls_of_fan fan
 fans_more fans now fan more =
     ap pulls_of_fans more ∙ flat_map-append pulls_of_fan fans (fan ∷ []) ∙ ap (λ (ps : List Pull). pulls_of_fans fans ++ ps) (append-nil (pulls_of_fan fan))

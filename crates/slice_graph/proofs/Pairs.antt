@@ -17,9 +17,6 @@ flat_more : {X : Type 0} (f : ℕ → List X) (a n x : ℕ) → a + n ≡ x → 
 flat_more f a n x is =
     ap (flat_map f) (range_more a n x is) ∙ flat_map-append f (range_with_len a n) (x ∷ []) ∙ ap (λ (ys : List _). flat_map f (range_with_len a n) ++ ys) (append-nil (f x))
 
-pub flat_none : {X : Type 0} (old : List X) (f : ℕ → List X) (a : ℕ) → old ≡ old ++ flat_map f (range_with_len a 0)
-flat_none old f a = sym (append-nil old)
-
 -- one number more
 pub flat_next : {X : Type 0} (old now new : List X) (f : ℕ → List X) (a n x : ℕ) → a + n ≡ x → now ≡ old ++ flat_map f (range_with_len a n) → new ≡ now ++ f x
     → new ≡ old ++ flat_map f (range_with_len a (n + 1))

@@ -11,7 +11,7 @@ use Rattle.causal_order.proofs.Rows.{length-rows_of, row_at as block_row_at}
 use Rattle.pull_system.specs.Rows.{RowsView, row_at}
 use Rattle.slice_graph.specs.Views.{SliceView, IsCut, joined_onto, joined_rows, no_row}
 use Rattle.slice_graph.specs.Fitting.{IsCutOfVector}
-use Rattle.slice_graph.specs.inside.Pushing.{PushesRows, AreRising, some_row}
+use Rattle.slice_graph.specs.inside.Pushing.{PushesRows, so_far, AreRising, some_row}
 use Rattle.slice_graph.proofs.Building.{BuiltBy}
 use Rattle.slice_graph.proofs.Kept.{KeptRow}
 use Rattle.slice_graph.proofs.Pieces.{length-slice_range, get_or-slice_range}
@@ -23,7 +23,7 @@ joined_both t [] ls = refl
 joined_both t (None ∷ ks) ls = joined_both t ks ls
 joined_both t (Some c ∷ ks) ls = joined_both (max_cut c t) ks ls
 
-pub pushes_none : (rows : RowsView) (first : ℕ) (v : SliceView) (t : Cut) → PushesRows rows first 0 v v t t
+pub pushes_none : (rows : RowsView) (first : ℕ) (v : SliceView) (t : Cut) → PushesRows rows first 0 (so_far v t) (so_far v t)
 pushes_none rows first v t = record {
   kept = [];
   size = refl;
@@ -32,7 +32,7 @@ pushes_none rows first v t = record {
   top = refl;
 }
 
-pub pushes_both : (rows : RowsView) (first n m : ℕ) (v w x : SliceView) (t u s : Cut) → PushesRows rows first n v w t u → PushesRows rows (first + n) m w x u s → PushesRows rows first (n + m) v x t s
+pub pushes_both : (rows : RowsView) (first n m : ℕ) (v w x : SliceView) (t u s : Cut) → PushesRows rows first n (so_far v t) (so_far w u) → PushesRows rows (first + n) m (so_far w u) (so_far x s) → PushesRows rows first (n + m) (so_far v t) (so_far x s)
 pushes_both rows first n m v w x t u s a b = record {
   kept = a.kept ++ b.kept;
   size = length-append a.kept b.kept ∙ omega (arith, a.size, b.size);
@@ -51,7 +51,7 @@ pushes_both rows first n m v w x t u s a b = record {
 }
 
 pub pushes_one : (rows : RowsView) (first : ℕ) (v w : SliceView) (t u : Cut) (k : Option Cut) → IsCutOfVector rows.lens (row_at rows.lens rows.words first) k → w ≡ record v { rows = v.rows ++ k ∷ [] } → u ≡ joined_onto t (k ∷ [])
-    → PushesRows rows first 1 v w t u
+    → PushesRows rows first 1 (so_far v t) (so_far w u)
 pushes_one rows first v w t u k is more top = record {
   kept = k ∷ [];
   size = refl;
@@ -76,7 +76,7 @@ none_joined t zero = refl
 none_joined t (suc n) = none_joined t n
 
 pub pushes_nones : (rows : RowsView) (first n : ℕ) (v w : SliceView) (t : Cut) → ((a : ℕ) → a < n → IsWithin (row_at rows.lens rows.words (first + a)) rows.lens → ⊥)
-    → w ≡ record v { rows = v.rows ++ replicate n no_row } → PushesRows rows first n v w t t
+    → w ≡ record v { rows = v.rows ++ replicate n no_row } → PushesRows rows first n (so_far v t) (so_far w t)
 pushes_nones rows first n v w t past more = record {
   kept = replicate n no_row;
   size = length-replicate n no_row;
@@ -183,7 +183,7 @@ joined_last t m (c ∷ d ∷ cs) size some wide within last =
 pub pushes_block : (rows : RowsView) (first n : ℕ) (v w : SliceView) (t u : Cut) → 0 < n → (first + n) * length rows.lens ≤ length rows.words → AreRising rows first n
     → ((a : ℕ) → a < n → IsWithin (row_at rows.lens rows.words (first + a)) rows.lens)
     → w ≡ record v { rows = v.rows ++ map some_row (rows_of (length rows.lens) n (slice_range rows.words (first * length rows.lens) ((first + n) * length rows.lens))) }
-    → length t ≡ length rows.lens → ((a : ℕ) → a + 1 ≡ n → u ≡ max_cut (row_at rows.lens rows.words (first + a)) t) → PushesRows rows first n v w t u
+    → length t ≡ length rows.lens → ((a : ℕ) → a + 1 ≡ n → u ≡ max_cut (row_at rows.lens rows.words (first + a)) t) → PushesRows rows first n (so_far v t) (so_far w u)
 pushes_block rows first n v w t u some there rise within more size top =
     let width : ℕ = length rows.lens in
     let block : List ℕ = slice_range rows.words (first * width) ((first + n) * width) in
@@ -263,7 +263,7 @@ rows_fit lens words first n total size few = omega (arith, size, mul-le-mul_righ
 -- ---- the rows of a slice
 
 -- rows that are put behind those that are built
-pub built_rows : (rows : RowsView) (first n : ℕ) (v w : SliceView) (t u : Cut) → BuiltBy rows.lens (KeptRow rows.lens rows.words) first v → PushesRows rows first n v w t u → BuiltBy rows.lens (KeptRow rows.lens rows.words) (first + n) w
+pub built_rows : (rows : RowsView) (first n : ℕ) (v w : SliceView) (t u : Cut) → BuiltBy rows.lens (KeptRow rows.lens rows.words) first v → PushesRows rows first n (so_far v t) (so_far w u) → BuiltBy rows.lens (KeptRow rows.lens rows.words) (first + n) w
 built_rows rows first n v w t u h p = subst (BuiltBy rows.lens (KeptRow rows.lens rows.words) (first + n)) (sym p.table) (record {
   shape = h.shape;
   size = length-append v.rows p.kept ∙ omega (arith, h.size, p.size);
@@ -279,7 +279,7 @@ built_rows rows first n v w t u h p = subst (BuiltBy rows.lens (KeptRow rows.len
 })
 
 -- and their maximum
-pub joined_more : (rows : RowsView) (first n : ℕ) (v w : SliceView) (t u : Cut) → t ≡ joined_rows v → PushesRows rows first n v w t u → u ≡ joined_rows w
+pub joined_more : (rows : RowsView) (first n : ℕ) (v w : SliceView) (t u : Cut) → t ≡ joined_rows v → PushesRows rows first n (so_far v t) (so_far w u) → u ≡ joined_rows w
 joined_more rows first n v w t u is p =
     p.top ∙ ap (λ (z : Cut). joined_onto z p.kept) is ∙ sym (joined_both (replicate (length v.lens) 0) v.rows p.kept) ∙ ap joined_rows (sym p.table)
 

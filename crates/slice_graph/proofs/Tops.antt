@@ -1,14 +1,13 @@
 -- The maximum of the rows of a slice is its greatest cut.
-use Rattle.std.proofs.Common.{◌≡◌, ℕ, zero, suc, ◌+◌, ◌<◌, ◌≤◌, List, [], ◌∷◌, length, get_or, drop, take, replicate, sum, Option, Some, None, option_map, refl, sym, ap, ◌∙◌, subst, arith, inl, inr}
-use Rattle.std.specs.Prelude.{MatchOption}
+use Rattle.std.proofs.Common.{◌≡◌, ℕ, zero, suc, ◌+◌, ◌<◌, ◌≤◌, List, [], ◌∷◌, length, get_or, take, replicate, sum, Option, Some, None, refl, sym, ap, ◌∙◌, subst, arith, inl, inr}
 use Rattle.std.proofs.lemmas.Option.{none-some, same_Some}
 use Rattle.std.proofs.lemmas.Bool.{cases_lt}
-use Rattle.std.proofs.lemmas.List.{at_drop_more, at_drop_all, length-replicate, get_or_past}
+use Rattle.std.proofs.lemmas.List.{length-replicate, get_or_past}
 use Rattle.pota_base.specs.Shape.{row_of}
 use Rattle.run_model.specs.Cut.{Cut, Clocks, count, IsWithin, max_cut, lengths}
 use Rattle.run_model.specs.Consistent.{IsOrder, IsEvent}
 use Rattle.run_model.specs.Sublattice.{IsSublattice, IsGreatest, Having}
-use Rattle.run_model.specs.Slice.{HasWithin, IsLeastOf, StandsFor, Cuts}
+use Rattle.run_model.specs.Slice.{IsLeastOf, StandsFor, Cuts}
 use Rattle.run_model.proofs.Counts.{within_both, within_refl, within_trans, max_left, max_right, max_absorbs, length-lengths}
 use Rattle.run_model.proofs.SliceLemmas.{cuts_closed, exact_slice, greatest_from_rows, least_of_member}
 use Rattle.slice_graph.specs.Views.{SliceView, slice_of, joined_onto, joined_rows, no_row}
@@ -17,17 +16,6 @@ use Rattle.slice_graph.proofs.Building.{fits_of_set}
 use Rattle.slice_graph.proofs.Events.{event_of_row}
 
 -- ---- one row after the other
-
-pub joined_next : (t u : Cut) (rows : List (Option Cut)) (row : ℕ) (all : Cut) → row < length rows → joined_onto t (drop row rows) ≡ all
-    → u ≡ joined_onto t (get_or rows row no_row ∷ []) → joined_onto u (drop (row + 1) rows) ≡ all
-joined_next t u rows row all lt is new = step (get_or rows row no_row) (at_drop_more (joined_onto t) rows row no_row lt) new
-  where
-    step : (k : Option Cut) → joined_onto t (drop row rows) ≡ joined_onto t (k ∷ drop (row + 1) rows) → u ≡ joined_onto t (k ∷ []) → joined_onto u (drop (row + 1) rows) ≡ all
-    step None e n = ap (λ (x : Cut). joined_onto x (drop (row + 1) rows)) n ∙ sym e ∙ is
-    step (Some c) e n = ap (λ (x : Cut). joined_onto x (drop (row + 1) rows)) n ∙ sym e ∙ is
-
-pub joined_all : (t : Cut) (rows : List (Option Cut)) (row : ℕ) (all : Cut) → length rows ≤ row → joined_onto t (drop row rows) ≡ all → t ≡ all
-joined_all t rows row all le is = sym (at_drop_all (joined_onto t) rows row le) ∙ is
 
 -- ---- what the maximum has
 
@@ -100,30 +88,6 @@ top_greatest o order v fits low is = greatest_from_rows o (Cuts o (slice_of v)) 
     (top_member o order v fits low is)
     (λ i a j ev at. row_joined (replicate (length v.lens) 0) v.rows (sum (take i v.lens) + a) j at)
 
--- what is said of the greatest cut, whether there is one or not
-pub top_says : (o : Clocks) → IsOrder o → (v : SliceView) → FitsOrder o v → (r : Option Cut) → r ≡ option_map (λ _. joined_rows v) (slice_of v).bottom
-    → MatchOption r ((c : Cut) → Cuts o (slice_of v) c → ⊥) (IsGreatest (Cuts o (slice_of v)))
-top_says o order v fits r is = says (slice_of v).bottom refl
-  where
-    says : (k : Option Cut) → (slice_of v).bottom ≡ k → MatchOption r ((c : Cut) → Cuts o (slice_of v) c → ⊥) (IsGreatest (Cuts o (slice_of v)))
-    says None e = subst (λ (x : Option Cut). MatchOption x ((c : Cut) → Cuts o (slice_of v) c → ⊥) (IsGreatest (Cuts o (slice_of v))))
-        (sym (is ∙ ap (option_map (λ _. joined_rows v)) e))
-        (λ c cut. subst (λ (x : Option Cut). HasWithin x c) e cut.from_bottom)
-    says (Some low) e = subst (λ (x : Option Cut). MatchOption x ((c : Cut) → Cuts o (slice_of v) c → ⊥) (IsGreatest (Cuts o (slice_of v))))
-        (sym (is ∙ ap (option_map (λ _. joined_rows v)) e))
-        (top_greatest o order v fits low e)
-
--- the slice has no cut exactly where it has no bottom
-pub no_cuts : (o : Clocks) (v : SliceView) → FitsOrder o v → (slice_of v).bottom ≡ None → (c : Cut) → Cuts o (slice_of v) c → ⊥
-no_cuts o v fits is c cut = subst (λ (k : Option Cut). HasWithin k c) is cut.from_bottom
-
-pub no_bottom : (o : Clocks) (v : SliceView) → FitsOrder o v → ((c : Cut) → Cuts o (slice_of v) c → ⊥) → (slice_of v).bottom ≡ None
-no_bottom o v fits none = cases (slice_of v).bottom refl
-  where
-    cases : (k : Option Cut) → (slice_of v).bottom ≡ k → (slice_of v).bottom ≡ None
-    cases None e = e
-    cases (Some d) e = absurd (none d (row_member o v fits 0 d e))
-
 -- what the greatest cut is where the slice has a bottom
 pub top_there : (o : Clocks) → IsOrder o → (v : SliceView) → FitsOrder o v → (t : Cut) → t ≡ joined_rows v → ((slice_of v).bottom ≡ None → ⊥) → IsGreatest (Cuts o (slice_of v)) t
 top_there o order v fits t is some = cases (slice_of v).bottom refl
@@ -131,10 +95,6 @@ top_there o order v fits t is some = cases (slice_of v).bottom refl
     cases : (k : Option Cut) → (slice_of v).bottom ≡ k → IsGreatest (Cuts o (slice_of v)) t
     cases None e = absurd (some e)
     cases (Some low) e = subst (IsGreatest (Cuts o (slice_of v))) (sym is) (top_greatest o order v fits low e)
-
-pub some_top : (k : Option Cut) (t x : Cut) → (k ≡ None → ⊥) → t ≡ x → Some t ≡ option_map (λ _. x) k
-some_top None t x some is = absurd (some refl)
-some_top (Some low) t x some is = ap Some is
 
 -- the greatest cut of a set that the slice stands for is the maximum of its rows
 pub top_of_set : (o : Clocks) → IsOrder o → (A : Cut → Type 0) → IsSublattice o A → (v : SliceView) → v.lens ≡ lengths o → length v.rows ≡ sum v.lens + 1 → StandsFor o (slice_of v) A

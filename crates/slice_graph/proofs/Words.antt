@@ -2,7 +2,6 @@
 use Rattle.std.proofs.Common.{◌≡◌, ℕ, zero, suc, ◌+◌, ◌-◌, ◌*◌, ◌<◌, ◌≤◌, ◌↔◌, leb, List, [], ◌∷◌, ◌++◌, length, get_or, map, take, drop, Option, Some, None, refl, sym, ap, ◌∙◌, subst, arith, inl, inr, below_more}
 use Rattle.std.proofs.lemmas.Bool.{cases_lt, cond-true, cond-false, le-leb, lt-leb}
 use Rattle.std.proofs.lemmas.List.{length-map, get_or-map, get_or_past, get_or_append_left, get_or_push, map_push, length-append, length-drop, append_assoc, append-nil, take-append-drop}
-use Rattle.pota_base.specs.Shape.{IsShape}
 use Rattle.run_model.specs.Cut.{Cut, count, IsWithin}
 use Rattle.run_model.specs.Slice.{HasWithin}
 use Rattle.causal_order.specs.Blocks.{rows_of}
@@ -52,15 +51,6 @@ cut_filled lens c h = record { same = sym (ap (filled lens) (cut_in_cut lens c h
 pub past_filled : (lens : List ℕ) → 1 ≤ length lens → IsFilled lens (past_ends lens)
 past_filled lens some = record { same = sym (ap (filled lens) (cut_in_past lens some)); row = subst (IsRow lens) (sym (cut_in_past lens some)) tt }
 
--- the first word tells whether there is a cut
-pub cut_there : (lens : List ℕ) (k : Option Cut) (words : List ℕ) → 1 ≤ length lens → words ≡ filled lens k → get_or words 0 0 ≤ get_or lens 0 0 → Some words ≡ k
-cut_there lens None words some is h = absurd (omega (arith, ap (λ (w : List ℕ). get_or w 0 0) is, count-past_ends lens 0 (omega arith)))
-cut_there lens (Some c) words some is h = ap Some is
-
-pub cut_absent : (lens : List ℕ) (k : Option Cut) (words : List ℕ) → IsRow lens k → words ≡ filled lens k → get_or lens 0 0 < get_or words 0 0 → None ≡ k
-cut_absent lens None words row is h = refl
-cut_absent lens (Some c) words row is h = absurd (omega (arith, ap (λ (w : List ℕ). get_or w 0 0) is, row.within 0))
-
 -- ---- a table
 
 abbrev pub view_of : List ℕ → ℕ → List ℕ → SliceView
@@ -73,14 +63,6 @@ rows_are lens n words v is =
 pub no_rows : (lens words : List ℕ) → view_of lens 0 words ≡ record { lens = lens; rows = [] }
 unfolding rows_of
 no_rows lens words = refl
-
-pub no_rows_filled : (lens absent words : List ℕ) → IsShape lens → absent ≡ past_ends lens → words ≡ [] → AreFilled lens absent 0 words
-no_rows_filled lens absent words shape is none = record {
-  shape = shape;
-  past = is;
-  size = ap length none ∙ omega arith;
-  each = λ row lt. absurd (omega arith);
-}
 
 row_in : (lens : List ℕ) (n : ℕ) (words : List ℕ) (row : ℕ) → row < n → get_or (cuts_in lens n words) row no_row ≡ cut_in lens (get_or (rows_of (length lens) n words) row [])
 row_in lens n words row lt = get_or-map (cut_in lens) (rows_of (length lens) n words) row [] no_row (omega (arith, length-rows_of (length lens) n words))

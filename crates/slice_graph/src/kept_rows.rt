@@ -1,11 +1,11 @@
 //! The rows of a slice, from the least closed vectors.
-ghost use Rattle.std.specs.Prelude.{◌≡◌, ℕ, ◌+◌, ◌*◌, ◌<◌, ◌≤◌, ◌↔◌, length, sum, take, slice_index};
-ghost use Rattle.std.specs.Prelude.{IsTrue, OnOk};
+ghost use Rattle.std.specs.Prelude.{◌≡◌, ℕ, ◌+◌, ◌*◌, ◌<◌, ◌≤◌, ◌↔◌, length, sum, take};
+ghost use Rattle.std.specs.Prelude.{slice_index, IsTrue, OnOk};
 ghost use Rattle.std.specs.Bool.{OnTrue};
 ghost use Rattle.pota_base.specs.Shape.{IsShape};
 ghost use Rattle.run_model.specs.Cut.{IsWithin, max_cut};
 ghost use Rattle.pull_system.specs.Rows.{row_at};
-ghost use Rattle.slice_graph.specs.inside.Pushing.{AreRising, PushesRows};
+ghost use Rattle.slice_graph.specs.inside.Pushing.{AreRising, PushesRows, so_far};
 
 use crate::cuts::join_words;
 use crate::table::CutTable;
@@ -25,7 +25,8 @@ pub(crate) fn push_process(
     requires width { length top.old ≡ length rows.now.lens }
     ensures width { length top.new ≡ length top.old }
     ensures pushed { OnOk result (PushesRows rows.now (sum (take process rows.now.lens) + 1)
-        (slice_index rows.now.lens process) table.old table.new top.old top.new) }
+        (slice_index rows.now.lens process) (so_far table.old top.old)
+        (so_far table.new top.new)) }
 {
     let shape = rows.shape();
     let count = shape.len_of(process);
@@ -54,7 +55,7 @@ pub(crate) fn push_each(
     requires width { length top.old ≡ length rows.now.lens }
     ensures width { length top.new ≡ length top.old }
     ensures pushed { OnOk result
-        (PushesRows rows.now first count table.old table.new top.old top.new) }
+        (PushesRows rows.now first count (so_far table.old top.old) (so_far table.new top.new)) }
 {
     let mut room = [0; MOST_PROCESSES];
     let room = &mut room[..rows.shape().procs() as usize];
@@ -79,7 +80,8 @@ fn push_kept(
     requires top { length top.old ≡ length rows.now.lens }
     ensures width { length cut.new ≡ length cut.old }
     ensures top { length top.new ≡ length top.old }
-    ensures pushed { OnOk result (PushesRows rows.now row 1 table.old table.new top.old top.new) }
+    ensures pushed { OnOk result
+        (PushesRows rows.now row 1 (so_far table.old top.old) (so_far table.new top.new)) }
 {
     let shape = rows.shape();
     if keep(rows.row(row), shape.lens(), cut) {
@@ -125,7 +127,7 @@ fn push_rising(
     requires width { length top.old ≡ length rows.now.lens }
     ensures width { length top.new ≡ length top.old }
     ensures pushed { OnOk result
-        (PushesRows rows.now first count table.old table.new top.old top.new) }
+        (PushesRows rows.now first count (so_far table.old top.old) (so_far table.new top.new)) }
 {
     let kept = rows_with_cuts(rows, first, count);
     push_cuts(table, rows, first, kept, top)?;
@@ -149,7 +151,7 @@ fn push_cuts(
     requires width { length top.old ≡ length rows.now.lens }
     ensures width { length top.new ≡ length top.old }
     ensures pushed { OnOk result
-        (PushesRows rows.now first count table.old table.new top.old top.new) }
+        (PushesRows rows.now first count (so_far table.old top.old) (so_far table.new top.new)) }
 {
     if count == 0 {
         return Ok(());

@@ -172,14 +172,6 @@ up_to_next system process done row floor v words now is there kept reached same 
       kept = subst Q (let e : count + 1 ≡ sum (take process system.lens) + (done + 1 + 1) = omega arith in e) (kept_push system floor count words v now kept (subst P is reached) same);
     }
 
-pub up_to_more : (system : SystemView) (process done : ℕ) (floor now : List ℕ) (before : ℕ) (v words : List ℕ) → IsAtMost floor now → KeepsUpTo system process done floor (last_row_of before v) words → KeepsUpTo system process done now (last_row_of before v) words
-up_to_more system process done floor now before v words within up = record {
-  row = up.row;
-  there = up.there;
-  reached = reached_more system before floor now v within up.reached;
-  kept = kept_more system floor now _ words within up.kept;
-}
-
 -- the first processes have so many events with one process more
 pub sum_next : (lens : List ℕ) (process : ℕ) → process < length lens → sum (take (process + 1) lens) ≡ sum (take process lens) + get_or lens process 0
 sum_next lens process there = ap (λ n. sum (take n lens)) (let e : process + 1 ≡ suc process = omega arith in e) ∙ one_more lens process there

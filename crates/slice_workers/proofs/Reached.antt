@@ -124,10 +124,6 @@ all_least system floor bounds all = record { each = λ row there. reached_least 
 pub floor_reached : (system : SystemView) (floor : List ℕ) (row : ℕ) → AreBounds system floor → row ≤ sum system.lens → Reaches system row floor → IsReached system row floor (row_at system.lens floor row)
 floor_reached system floor row bounds there reaches = record { least = reached_least system floor row bounds there reaches; lent = λ i below. omega (arith, get_or-row_at system.lens floor row i below) }
 
--- what a call that follows the row settled is reached
-pub follows_reaches : (system : SystemView) (row : ℕ) (old new v : List ℕ) → Follows system row old new v → IsLeast system row v → Reaches system row new
-follows_reaches system row old new v follows least = record { vector = v; is = least; below = λ process there. omega (arith, follows.each process there) }
-
 pub reaches_row : (system : SystemView) (row : ℕ) (floor v : List ℕ) → IsReached system row floor v → Reaches system row floor
 reaches_row system row floor v is = record { vector = v; is = is.least; below = is.lent }
 
@@ -140,9 +136,6 @@ settled_row system row old new v follows least = record { least = least; lent = 
 
 pub within_refl : (v : List ℕ) → IsAtMost v v
 within_refl v = record { each = λ i. omega arith }
-
-pub within_along : (v w x : List ℕ) → w ≡ x → IsAtMost v w → IsAtMost v x
-within_along v w x same within = let P : List ℕ → Type 0 = IsAtMost v in subst P same within
 
 -- the row before on the process, or the bottom's before the first
 pub data IsBefore (lens : List ℕ) (process done before : ℕ) : Type 0 where

@@ -1,7 +1,6 @@
 -- What AG asks of a cut, and the least consistent cut that holds a cut.
-use Rattle.std.proofs.Common.{◌≡◌, ℕ, zero, suc, ◌+◌, ◌<◌, ◌≤◌, ◌↔◌, ◌⊎◌, ltb, max, cond, List, length, get_or, set, replicate, sum, Option, Some, None, refl, sym, ap, ◌∙◌, subst, arith, inl, inr, le_refl, le_trans, below_more}
+use Rattle.std.proofs.Common.{◌≡◌, ℕ, zero, suc, ◌+◌, ◌<◌, ◌≤◌, ◌↔◌, ◌⊎◌, ltb, max, cond, List, length, get_or, replicate, sum, Option, Some, None, refl, sym, ap, ◌∙◌, subst, arith, inl, inr, le_refl, le_trans, below_more}
 use Rattle.std.proofs.lemmas.Bool.{cases_lt, cases_eq, cond-true, cond-false, lt-ltb, le-ltb}
-use Rattle.std.proofs.lemmas.List.{get_or-set_same, get_or-set_other, length-set}
 use Rattle.pota_base.specs.Shape.{HasEvent, row_of}
 use Rattle.pota_base.specs.declared.shape.EventId.{EventId}
 use Rattle.run_model.specs.Cut.{Cut, Clocks, count, IsWithin, max_cut, lengths, initial}
@@ -28,19 +27,6 @@ pub record RaisedBelow (words past old : List ℕ) (i : ℕ) (now : List ℕ) : 
   pub len : length now ≡ length old
   pub below : (k : ℕ) → k < i → count now k ≡ beyond (count words k) (count past k) (count old k)
   pub above : (k : ℕ) → i ≤ k → count now k ≡ count old k
-
-pub raised_none : (words past old : List ℕ) → RaisedBelow words past old 0 old
-raised_none words past old = record { len = refl; below = λ k lt. absurd (omega arith); above = λ k le. refl }
-
-pub raised_more : (words past old now : List ℕ) (i v : ℕ) → RaisedBelow words past old i now → i < length now → v ≡ beyond (count words i) (count past i) (count now i)
-    → RaisedBelow words past old (i + 1) (set now i v)
-raised_more words past old now i v h lt is = record {
-  len = length-set now i v ∙ h.len;
-  below = below_more (λ k. count (set now i v) k ≡ beyond (count words k) (count past k) (count old k)) i
-      (λ k less. get_or-set_other now i k v 0 (λ e. absurd (omega arith)) ∙ h.below k less)
-      (get_or-set_same now i v 0 lt ∙ is ∙ ap (beyond (count words i) (count past i)) (h.above i (le_refl i)));
-  above = λ k le. get_or-set_other now i k v 0 (λ e. absurd (omega arith)) ∙ h.above k (omega arith);
-}
 
 beyond_is : (word past n : ℕ) → ((past < word) × (beyond word past n ≡ max word n)) ⊎ ((word ≤ past) × (beyond word past n ≡ n))
 beyond_is word past n = elim (cases_lt past word) [
@@ -193,9 +179,3 @@ closes_more o order cut old new k a h within at none some = elim (cases_lt 0 a) 
         least = λ d consistent holds. max_within (clock o k a) old d (has_past o order d consistent k a (pos, omega (arith, at, holds k))) (h.least d consistent holds);
       })
 ]
-
-pub closes_all : (o : Clocks) (cut closed : Cut) (k : ℕ) → Closes o cut k closed → length cut ≤ k → IsLeast (λ c. IsConsistent o c × IsWithin cut c) closed
-closes_all o cut closed k h all = record {
-  member = (h.consistent, λ i. elim (cases_lt i k) [ inl lt ↦ h.has i lt | inr ge ↦ omega (arith, count_past cut i (omega arith)) ]);
-  least = λ d m. h.least d m.0 m.1;
-}

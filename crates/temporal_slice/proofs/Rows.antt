@@ -1,15 +1,14 @@
 -- The rows that are pushed, and cuts that are joined.
-use Rattle.std.proofs.Common.{◌≡◌, ℕ, zero, suc, ◌+◌, ◌<◌, ◌≤◌, ◌↔◌, leb, max, List, [], ◌∷◌, ◌++◌, length, replicate, get_or, sum, Option, Some, None, option_map, refl, sym, ap, ◌∙◌, subst, arith, inl, inr}
-use Rattle.std.proofs.lemmas.Bool.{cond-true, cond-false, le-leb, lt-leb}
+use Rattle.std.proofs.Common.{◌≡◌, ℕ, zero, suc, ◌+◌, ◌<◌, ◌≤◌, ◌↔◌, max, List, [], ◌∷◌, ◌++◌, length, replicate, get_or, sum, Option, Some, option_map, refl, sym, ap, ◌∙◌, subst, arith, inl, inr}
 use Rattle.pota_base.specs.Shape.{HasEvent, row_of}
 use Rattle.pota_base.specs.declared.shape.EventId.{EventId}
-use Rattle.run_model.specs.Cut.{Cut, Clocks, count, IsWithin, max_cut, lengths, initial}
+use Rattle.run_model.specs.Cut.{Cut, Clocks, IsWithin, max_cut, lengths, initial}
 use Rattle.run_model.specs.Consistent.{IsOrder, IsConsistent, IsEvent, clock}
 use Rattle.run_model.specs.Slice.{Slice}
-use Rattle.run_model.specs.Operators.{whole, lowered, raised}
+use Rattle.run_model.specs.Operators.{whole, raised}
 use Rattle.run_model.proofs.Counts.{length-lengths, length-max, max_within}
 use Rattle.run_model.proofs.Orders.{initial_consistent}
-use Rattle.slice_graph.specs.Views.{SliceView, slice_of, IsCut, IsRow, no_row, last_row}
+use Rattle.slice_graph.specs.Views.{SliceView, slice_of, IsCut, IsRow, last_row}
 use Rattle.slice_graph.proofs.Building.{BuiltBy, IsRowOf, built_none, built_more, bottom_row, event_row}
 
 pub initial_is : (o : Clocks) (n : ℕ) → n ≡ length o → replicate n 0 ≡ initial o
@@ -30,13 +29,6 @@ clock_cut o order e h = record {
 
 pub max_cut_cut : (lens : List ℕ) (c d : Cut) → IsCut lens c → IsCut lens d → IsCut lens (max_cut c d)
 max_cut_cut lens c d h k = record { size = omega (arith, length-max c d, h.size, k.size); within = max_within c d lens h.within k.within }
-
--- the rows of an event where a cut has it or not
-pub lowered_there : (s : Slice) (t : Cut) (i a : ℕ) (k : Option Cut) → a ≤ count t i → k ≡ s.row i a → k ≡ (lowered s t).row i a
-lowered_there s t i a k le is = is ∙ sym (cond-true (leb a (count t i)) (s.row i a) None (le-leb a (count t i) le))
-
-pub lowered_absent : (s : Slice) (t : Cut) (i a : ℕ) → count t i < a → no_row ≡ (lowered s t).row i a
-lowered_absent s t i a lt = sym (cond-false (leb a (count t i)) (s.row i a) None (lt-leb a (count t i) lt))
 
 -- ---- the first row and the next
 

@@ -12,12 +12,12 @@ use Rattle.run_model.specs.Operators.{HasPairs}
 use Rattle.run_model.proofs.Counts.{count-max, count_past, within_both, within_trans, max_right, max_within, length-lengths}
 use Rattle.run_model.proofs.Orders.{has_process, event_up}
 use Rattle.run_model.proofs.SliceLemmas.{least_of_member, least_within, cuts_closed}
-use Rattle.slice_graph.specs.Views.{SliceView, slice_of, last_row, IsCut}
+use Rattle.slice_graph.specs.Views.{SliceView, slice_of, last_row}
 use Rattle.slice_graph.specs.Words.{filled, row_words}
 use Rattle.slice_graph.specs.Fitting.{FitsOrder}
 use Rattle.slice_graph.proofs.Events.{rows_apart, row_there}
 use Rattle.temporal_slice.specs.inside.Operands.{IsInRow, Shares}
-use Rattle.temporal_slice.proofs.Rows.{event_in, row_of_last, consistent_cut}
+use Rattle.temporal_slice.proofs.Rows.{event_in, row_of_last}
 
 -- the row of an event, where the slice has the final cut: it is the least cut with the event
 pub record TheRow (o : Clocks) (v : SliceView) (i a : ℕ) : Type 0 where
@@ -39,11 +39,6 @@ the_row o v fits last i a ev =
       has = r.2.member.1;
       least = λ c cut le. r.2.least c (cut, le);
     }
-
-pub row_cut : (o : Clocks) (v : SliceView) → FitsOrder o v → Cuts o (slice_of v) (lengths o) → (i a : ℕ) → IsEvent (lengths o) i a → IsCut v.lens (row_words v i a)
-row_cut o v fits last i a ev =
-    let r = the_row o v fits last i a ev in
-    subst (λ (lens : List ℕ). IsCut lens (row_words v i a)) (sym fits.shape) (subst (IsCut (lengths o)) (sym r.words) (consistent_cut o r.row r.member.consistent))
 
 -- events of a cut of the slice are events
 in_cut : (o : Clocks) (v : SliceView) (c : Cut) (i a : ℕ) → Cuts o (slice_of v) c → 0 < a → a ≤ count c i → IsEvent (lengths o) i a

@@ -1,7 +1,7 @@
 -- Items up to a cut.
 use Rattle.std.proofs.Common.{◌≡◌, ℕ, ◌+◌, ◌-◌, ◌^◌, ◌<◌, ◌≤◌, ◌⊎◌, Bool, true, false, List, [], ◌∷◌, ◌++◌, length, drop, map, replicate, get_or, refl, sym, ap, ◌∙◌, subst, inl, inr, arith, append_assoc, append-nil}
 use Rattle.std.proofs.lemmas.Bool.{cases_Bool, cond-true, cond-false}
-use Rattle.std.proofs.lemmas.List.{drop_more, drop_all, length_push, nil_from_length}
+use Rattle.std.proofs.lemmas.List.{drop_all, length_push, nil_from_length}
 use Rattle.run_model.specs.Cut.{Cut}
 use Rattle.event_log.specs.declared.item.Item.{Item}
 use Rattle.event_log.specs.declared.item.Item.TheVariants as item
@@ -90,15 +90,6 @@ kept_append cut before (x ∷ xs) i behind at =
     ∙ sym (append_assoc (kept_item cut before x) (kept_from cut (with_item before x) xs) (kept_item cut behind i))
 
 -- ---- differences
-
-pub difference_more : (all counts : List ℕ) (cut : Cut) (left : List ℕ) (i n m : ℕ) → i < length counts → i < length cut → n ≡ get_or counts i 0 → m ≡ get_or cut i 0 → left ++ differences (drop i counts) (drop i cut) ≡ all → (left ++ (n - m) ∷ []) ++ differences (drop (i + 1) counts) (drop (i + 1) cut) ≡ all
-difference_more all counts cut left i n m lt lt' read read' so_far =
-    append_assoc left ((n - m) ∷ []) (differences (drop (i + 1) counts) (drop (i + 1) cut))
-    ∙ ap (λ (xs : List ℕ). left ++ xs)
-    (ap (λ (x : ℕ). (x - m) ∷ differences (drop (i + 1) counts) (drop (i + 1) cut)) read
-    ∙ ap (λ (x : ℕ). (get_or counts i 0 - x) ∷ differences (drop (i + 1) counts) (drop (i + 1) cut)) read'
-    ∙ sym (ap (λ xs. differences xs (drop i cut)) (drop_more counts i 0 lt) ∙ ap (λ ys. differences (get_or counts i 0 ∷ drop (i + 1) counts) ys) (drop_more cut i 0 lt')))
-    ∙ so_far
 
 pub difference_all : (counts : List ℕ) (cut : Cut) (left : List ℕ) (i : ℕ) → length counts ≡ length cut → length cut ≤ i → left ++ differences (drop i counts) (drop i cut) ≡ differences counts cut → left ≡ differences counts cut
 difference_all counts cut left i same done so_far =

@@ -3,12 +3,11 @@ use Rattle.std.proofs.Common.{◌≡◌, ℕ, ◌<◌, ◌≤◌, Bool, true, fa
 use Rattle.std.specs.Prelude.{if◌then◌else◌}
 use Rattle.std.proofs.lemmas.List.{get_or-map, length-map, map-append}
 use Rattle.std.proofs.lemmas.Option.{none-some, same_Some}
-use Rattle.run_model.specs.Cut.{Cut}
 use Rattle.event_log.specs.declared.item.Item.{Item}
 use Rattle.event_log.specs.declared.item.Item.TheVariants as item
 use Rattle.event_log.specs.declared.log.Event.{Event}
 use Rattle.vector_clock.specs.Events.{Events}
-use Rattle.torn_log.specs.Items.{event_in, with_item, stays}
+use Rattle.torn_log.specs.Items.{event_in, with_item}
 
 -- ---- one item
 
@@ -23,12 +22,6 @@ nothing_more events (item.Header h) is = refl
 nothing_more events (item.Event e) is = absurd (none-some e is)
 nothing_more events item.BatchEnd is = refl
 nothing_more events item.End is = refl
-
-pub it_stays : (cut : Cut) (before : Events) (i : Item) → None ≡ event_in i → stays cut before i ≡ true
-it_stays cut before (item.Header h) is = refl
-it_stays cut before (item.Event e) is = absurd (none-some e is)
-it_stays cut before item.BatchEnd is = refl
-it_stays cut before item.End is = refl
 
 -- ---- several
 

@@ -1,6 +1,6 @@
 -- What an event stands on, by its place.
 use Rattle.std.proofs.Common.{◌≡◌, ℕ, zero, suc, ◌<◌, ◌≤◌, List, [], ◌∷◌, ◌++◌, length, map, get_or, replicate, refl, sym, ap, ◌∙◌, arith, append_assoc, length-append}
-use Rattle.std.specs.Prelude.{Option, None, Some}
+use Rattle.std.specs.Prelude.{Option, None}
 use Rattle.std.specs.Option.{unwrap_or}
 use Rattle.std.proofs.lemmas.List.{get_or_at, get_or-map, get_or-set_same, length-replicate, length-map}
 use Rattle.run_model.specs.Cut.{Cut, count, IsWithin, lengths}
@@ -50,9 +50,6 @@ none n = replicate n 0
 
 pub only_from : (n p a : ℕ) (cut : Cut) → p < n → IsWithin (only n p a) cut → a ≤ count cut p
 only_from n p a cut lt h = omega (arith, h p, get_or-set_same (none n) p a 0 (omega (arith, lt, length-replicate {A = ℕ} n 0)))
-
-pub sent_place : (events : Events) (m : Message) (a : ℕ) → first_send events m ≡ Some a → sent_at events m ≡ a
-sent_place events m a h = ap (λ (o : Option ℕ). unwrap_or o (suc (length (own_events events m.sender)))) h
 
 pub unsent_place : (events : Events) (m : Message) → first_send events m ≡ None → sent_at events m ≡ suc (length (own_events events m.sender))
 unsent_place events m h = ap (λ (o : Option ℕ). unwrap_or o (suc (length (own_events events m.sender)))) h

@@ -127,9 +127,6 @@ pub record Passed (old new : HostLines) : Type 0 where
 pub goes_on : (a b c : HostLines) → Goes a b → Goes b c → Goes a c
 goes_on a b c one two = record { unfinished_is = two.unfinished_is ∙ one.unfinished_is; line_is = two.line_is ∙ one.line_is }
 
-pub passed_none : (h : HostLines) → Passed h h
-passed_none h = record { goes = record { unfinished_is = refl; line_is = refl }; left_is = refl; due_is = refl }
-
 pub passed_more : (a b c : HostLines) → Passed a b → Passed b c → Passed a c
 passed_more a b c one two = record { goes = goes_on a b c one.goes two.goes; left_is = two.left_is ∙ one.left_is; due_is = two.due_is ∙ one.due_is }
 

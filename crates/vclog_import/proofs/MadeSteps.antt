@@ -143,9 +143,6 @@ pub record Making (rs : List Record) (hosts : List Host) (made : Events) (i : �
   pub good : first_bad_clock rs ≡ first_bad_clock (drop i rs)
   pub known : first_of (unknown_fault hosts) [] rs ≡ first_of (unknown_fault hosts) (take i rs) (drop i rs)
 
-pub making_none : (rs : List Record) (hosts : List Host) (made : Events) → HasMade made [] → hosts_in made.hosts.now ≡ hosts → Making rs hosts made 0
-making_none rs hosts made so are = record { made_is = so; hosts_are = are; good = refl; known = refl }
-
 module _ (rs : List Record) (hosts : List Host) (made : Events) (i : ℕ) (r : Record) (so : Making rs hosts made i) (lt : i < length rs) (is : r ≡ get_or rs i r) where
   cut : drop i rs ≡ r ∷ drop (i + 1) rs
   cut = drop_more rs i r lt ∙ ap (λ (q : Record). q ∷ drop (i + 1) rs) (sym is)
@@ -180,10 +177,6 @@ making_all rs hosts made i clash so past are =
     ap (λ (hs : List Host). choose (first_bad_clock rs) (λ (g : ImportFault). Some g) (earlier clash (first_of (unknown_fault hs) [] rs))) (sym are)
     ∙ ap (λ (o : Option ImportFault). choose (first_bad_clock rs) (λ (g : ImportFault). Some g) (earlier clash o)) (so.known ∙ ap (first_of (unknown_fault hosts) (take i rs)) (drop_all i rs past) ∙ first_of-nil (unknown_fault hosts) (take i rs))
     ∙ ap (λ (o : Option ImportFault). choose o (λ (g : ImportFault). Some g) (earlier clash None)) (so.good ∙ ap first_bad_clock (drop_all i rs past) ∙ no_bad_clock)
-
-pub all_made : (rs : List Record) (hosts : List Host) (made : Events) (i : ℕ) → Making rs hosts made i → length rs ≤ i → hosts ≡ hosts_of rs → made.events ≡ events_from (hosts_of rs) [] rs
-all_made rs hosts made i so past are =
-    so.made_is.events_are ∙ ap (λ (hs : List Host). events_from hs [] (take i rs)) (so.hosts_are ∙ are) ∙ ap (events_from (hosts_of rs) []) (take_all i rs past)
 
 -- ---- line by line
 

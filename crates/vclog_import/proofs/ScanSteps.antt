@@ -16,7 +16,7 @@ use Rattle.vclog_import.specs.declared.scanning.Scan.{Scan}
 use Rattle.vclog_import.specs.Lines.{Record, is_due_behind, feeds}
 use Rattle.vclog_import.specs.Hosts.{with_host, hosts_from, hosts_of, do_clash}
 use Rattle.vclog_import.specs.Faults.{at_line, first_of, is_bad, is_host_too_many, is_record_too_many, clash_fault, is_too_long, judged, judged_lines, last_line, ended_at, is_truncated, end_fault}
-use Rattle.vclog_import.specs.inside.Reading.{record_of, records, lines_left, left, due_at_end}
+use Rattle.vclog_import.specs.inside.Reading.{record_of, records, left, due_at_end}
 use Rattle.vclog_import.specs.inside.Reading.{line_at_end, Gives, Ends}
 use Rattle.vclog_import.specs.inside.Scans.{plain_fault, until, hosts_in, Has, AreApart, HasScanned}
 use Rattle.vclog_import.specs.inside.Scans.{IsScan}
@@ -33,17 +33,6 @@ pub record Scanning (text : List ℕ) (s : Scan) (h : HostLines) : Type 0 where
   pub due : due_at_end h ≡ is_due_behind true (judged_lines text)
   pub line : line_at_end h ≡ last_line text
   pub unfinished : h.unfinished ≡ not (is_too_long text)
-
-pub scanning_none : (text : List ℕ) (s : Scan) (h : HostLines) → HasScanned s → records s.lines.items ≡ [] → left h ≡ judged text → lines_left h ≡ judged_lines text → h.is_due ≡ true → line_at_end h ≡ last_line text → h.unfinished ≡ not (is_too_long text) → Scanning text s h
-scanning_none text s h scanned none left_is lines due line unfinished = record {
-  scanned = scanned;
-  first = sym (ap (λ (front : List Record). first_of plain_fault front (left h)) none ∙ ap (first_of plain_fault []) left_is);
-  taken = sym (ap (λ (front : List Record). front ++ until plain_fault front (left h)) none ∙ ap (until plain_fault []) left_is);
-  all = sym (ap (λ (front : List Record). front ++ left h) none ∙ left_is);
-  due = ap (λ (d : Bool). is_due_behind d (lines_left h)) due ∙ ap (is_due_behind true) lines;
-  line = line;
-  unfinished = unfinished;
-}
 
 pub scanning_more : (text : List ℕ) (s t : Scan) (h k : HostLines) (r : Record) → Scanning text s h → Gives h k r → records t.lines.items ≡ records s.lines.items ++ r ∷ [] → plain_fault (records s.lines.items) r ≡ None → HasScanned t → Scanning text t k
 scanning_more text s t h k r so gives more none scanned =

@@ -77,11 +77,6 @@ same_step test n h =
     let one : n + 1 ≡ suc n = omega arith in
     ap (λ (m : ℕ). some_below m test) one ∙ some_suc test n ∙ or_none (some_below n test) (test n) h
 
-pub none_in_all : (test : ℕ → Bool) (n m : ℕ) → some_below n test ≡ false → m ≤ n → n ≤ m → false ≡ some_below m test
-none_in_all test n m h le ge =
-    let same : n ≡ m = omega arith in
-    sym (subst (λ (k : ℕ). some_below k test ≡ false) same h)
-
 -- an item that is read by its place
 pub count_is : (v : Cut) (i x : ℕ) → i < length v → x ≡ get_or v i x → count v i ≡ x
 count_is [] i x lt is = absurd (omega arith)

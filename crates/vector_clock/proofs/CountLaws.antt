@@ -1,9 +1,9 @@
 -- The counts of clocks that are left out, one process after the other.
-use Rattle.std.proofs.Common.{◌≡◌, ℕ, zero, suc, ◌+◌, ◌<◌, ◌≤◌, Bool, true, false, List, [], ◌∷◌, ◌++◌, length, get_or, set, replicate, refl, sym, ap, ◌∙◌, subst, arith, inl, inr, length-append}
+use Rattle.std.proofs.Common.{◌≡◌, ℕ, ◌+◌, ◌<◌, ◌≤◌, Bool, true, false, List, [], ◌∷◌, ◌++◌, length, get_or, refl, sym, ap, ◌∙◌, subst, arith, inl, inr, length-append}
 use Rattle.std.specs.Prelude.{Option, None, Some, ◌==◌, if◌then◌else◌}
-use Rattle.std.specs.List.{Contains, All}
+use Rattle.std.specs.List.{All}
 use Rattle.std.proofs.lemmas.Bool.{cases_eq, cases_lt, eq-eqb, ne_eqb}
-use Rattle.std.proofs.lemmas.List.{length-set, length-replicate, get_or-set_same, get_or-set_other, get_or_append_left, get_or-append-add, get_or_default}
+use Rattle.std.proofs.lemmas.List.{get_or_append_left, get_or-append-add, get_or_default}
 use Rattle.std.proofs.lemmas.List.Elements.{All-nil, All-cons, All-append, All-contains, Contains-append_left, Contains-append_right, Contains-append_cases, Contains-get_or}
 use Rattle.event_log.specs.declared.log.Event.{Event}
 use Rattle.event_log.specs.declared.log.Kind.{Kind}
@@ -59,14 +59,6 @@ at_node o j x e node = go (is_left_out e) (e.process == j)
     go true true = All-cons (λ (s : Start). s.node ≡ x) _ _ refl both
     go true false = both
 
-pub no_starts : (o : Clocks) (j : ℕ) (batch : List Event) (nodes : List Node) (starts : List Start) → starts ≡ [] → AreStarts o j batch nodes 0 starts
-no_starts o j batch nodes starts none = record {
-  sound = λ x n h.
-      let there : Contains [] _ = subst (λ (xs : List Start). Contains xs (record { value = n; node = x })) none h in
-      absurd (omega (arith, there.1));
-  all = λ x n lt h. absurd (omega (arith, lt));
-}
-
 pub starts_more : (o : Clocks) (j : ℕ) (batch : List Event) (nodes : List Node) (i : ℕ) (starts more : List Start) → more ≡ starts ++ starts_of o j i (event_in batch i) (node_at nodes i) → AreStarts o j batch nodes i starts
     → AreStarts o j batch nodes (i + 1) more
 starts_more o j batch nodes i starts more is are = subst (AreStarts o j batch nodes (i + 1)) (sym is) (record { sound = sound; all = all })
@@ -116,30 +108,6 @@ pub record HaveMoreUpto (i : ℕ) (old new : List Cut) (values : List ℕ) : Typ
   pub size : length new ≡ length old
   pub done : (k : ℕ) → k < i → get_or new k [] ≡ get_or old k [] ++ get_or values k 0 ∷ []
   pub rest : (k : ℕ) → i ≤ k → get_or new k [] ≡ get_or old k []
-
-pub more_upto : (i : ℕ) (old now : List Cut) (values : List ℕ) (v : ℕ) → i < length old → v ≡ get_or values i 0 → HaveMoreUpto i old now values → HaveMoreUpto (i + 1) old (set now i (get_or now i [] ++ v ∷ [])) values
-more_upto i old now values v lt is have = record {
-  size = length-set now i _ ∙ have.size;
-  done = λ k low. elim (cases_eq k i) [
-    | inl same ↦
-        ap (λ (n : ℕ). get_or (set now i (get_or now i [] ++ v ∷ [])) n []) same ∙ get_or-set_same now i (get_or now i [] ++ v ∷ []) [] (omega (arith, lt, have.size))
-        ∙ ap (λ (c : Cut). c ++ v ∷ []) (have.rest i (omega arith)) ∙ ap (λ (n : ℕ). get_or old i [] ++ n ∷ []) is ∙ ap (λ (n : ℕ). get_or old n [] ++ get_or values n 0 ∷ []) (sym same)
-    | inr other ↦ get_or-set_other now i k _ [] other ∙ have.done k (omega (arith, low, other))
-  ];
-  rest = λ k low. get_or-set_other now i k _ [] (λ same. omega (arith, low, same)) ∙ have.rest k (omega (arith, low));
-}
-
-pub no_counts : (o : Clocks) (batch : List Event) (nodes : List Node) (readers : List (List ℕ)) (i : ℕ) (clocks : List Cut) → clocks ≡ replicate i [] → i ≡ length batch → HaveCounts o batch nodes readers 0 clocks
-no_counts o batch nodes readers i clocks is len = record {
-  nodes_are = ap length is ∙ length-replicate i [] ∙ len;
-  width = λ k lt. ap (λ (cs : List Cut). length (get_or cs k [])) is ∙ ap (length {A = ℕ}) (empty_at i k);
-  counts = λ k q lt low. absurd (omega (arith, low));
-}
-  where
-    empty_at : (n k : ℕ) → get_or {A = Cut} (replicate n []) k [] ≡ []
-    empty_at zero k = refl
-    empty_at (suc n) zero = refl
-    empty_at (suc n) (suc k) = empty_at n k
 
 pub counts_more : (o : Clocks) (batch : List Event) (nodes : List Node) (readers : List (List ℕ)) (j : ℕ) (old new : List Cut) (values : List ℕ) → HaveCounts o batch nodes readers j old → AreCounts o batch nodes readers j values → HaveMore old new values
     → HaveCounts o batch nodes readers (j + 1) new

@@ -283,9 +283,6 @@ module _ (o : Clocks) (events : Events) (batch : List Event) (nodes : List Node)
 same_place : (one other : Events) (e : Event) → map length one ≡ map length other → place one e ≡ place other e
 same_place one other e is = omega (arith, own_len one e.process, own_len other e.process, ap (λ (xs : List ℕ). get_or xs e.process 0) is)
 
-abbrev filled_in : Events → Events → Event → Event
-filled_in all before e = filled_event all before e
-
 lens_with : (before : Events) (e f : Event) → e.process ≡ f.process → map length (with_event before e) ≡ map length (with_event before f)
 lens_with before e f same =
     map-set (length {A = Event}) before e.process _ ∙ ap (λ (n : ℕ). set (map length before) e.process n) (length-append (own_events before e.process) (e ∷ []) ∙ sym (length-append (own_events before e.process) (f ∷ [])))

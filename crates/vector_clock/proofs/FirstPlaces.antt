@@ -32,10 +32,6 @@ chosen_first : (o : Option ℕ) → choose o (λ a. Some a) None ≡ o
 chosen_first None = refl
 chosen_first (Some a) = refl
 
-chosen_or : (o : Option ℕ) (n : ℕ) → choose o (λ a. Some a) (Some n) ≡ Some (unwrap_or o n)
-chosen_or None n = refl
-chosen_or (Some a) n = refl
-
 none_some : (a : ℕ) → ◌≡◌ {A = Option ℕ} None (Some a) → ⊥
 none_some a h = cc
 

@@ -22,9 +22,8 @@ use Rattle.vector_clock.specs.Met.{met_at}
 use Rattle.vector_clock.specs.inside.Met.{IsNoted}
 use Rattle.vector_clock.specs.Fill.{Place, IsBefore, no_event}
 use Rattle.vector_clock.specs.inside.Nodes.{event_in, node_place, target_place, IsTarget}
-use Rattle.vector_clock.specs.inside.Nodes.{IsBeforeInBatch, Finds, first_index, AreSends}
+use Rattle.vector_clock.specs.inside.Nodes.{Finds, first_index, AreSends}
 use Rattle.vector_clock.specs.inside.Nodes.{admitted_at, send_of, node_at, IsNode, HaveTargets}
-use Rattle.vector_clock.specs.inside.Nodes.{AreWithin}
 use Rattle.vector_clock.proofs.FirstPlaces.{same_message, own_same, own_other}
 use Rattle.vector_clock.proofs.Counting.{batch_next, no_batch, is_next}
 use Rattle.vector_clock.proofs.Growth.{length-with_batch}
@@ -122,14 +121,6 @@ more_target lens a b le (Some (InBatch k)) h = omega (arith, h, le)
 pub index_target : (lens : List ℕ) (test : Event → Bool) (batch : List Event) (o : Option ℕ) → o ≡ first_index test batch → IsTarget lens (length batch) (option_map (λ k. InBatch k) o)
 index_target lens test batch None h = tt
 index_target lens test batch (Some k) h = index_there test batch k (sym h)
-
-pub target_within : (lens : List ℕ) (n : ℕ) (o : Option Target) → IsTarget lens n o → IsBeforeInBatch n o
-target_within lens n None h = tt
-target_within lens n (Some (Admitted id)) h = tt
-target_within lens n (Some (InBatch k)) h = h
-
-pub targets_within : (lens : List ℕ) (n : ℕ) (nodes : List Node) → HaveTargets lens n nodes → AreWithin n nodes
-targets_within lens n nodes have k = (target_within lens n (node_at nodes k).before (have.before k), target_within lens n (node_at nodes k).sent (have.sent k))
 
 pub no_targets : (lens : List ℕ) (n : ℕ) → HaveTargets lens n []
 no_targets lens n = record { before = λ k. tt; sent = λ k. tt }

@@ -4,7 +4,7 @@ use Rattle.std.specs.Prelude.{Option, None, Some}
 use Rattle.std.specs.List.{Contains}
 use Rattle.std.proofs.lemmas.Option.{same_Some}
 use Rattle.std.proofs.lemmas.Bool.{cases_eq}
-use Rattle.std.proofs.lemmas.List.{length-set, length-replicate, get_or-set_same, get_or-set_other, get_or_default}
+use Rattle.std.proofs.lemmas.List.{length-set, get_or-set_same, get_or-set_other, get_or_default}
 use Rattle.std.proofs.lemmas.List.Elements.{Contains-append_left, Contains-push, Contains-push_cases, Contains-get_or}
 use Rattle.pota_base.specs.declared.shape.EventId.{EventId}
 use Rattle.event_log.specs.declared.log.Event.{Event}
@@ -76,13 +76,6 @@ nothing_read : (n a b : ℕ) → Reads (replicate n []) a b → ⊥
 nothing_read zero a b h = omega (arith, h.1)
 nothing_read (suc n) a zero h = omega (arith, h.1)
 nothing_read (suc n) a (suc b) h = nothing_read n a b h
-
-pub no_readers : (batch : List Event) (nodes : List Node) (readers : List (List ℕ)) (i : ℕ) → readers ≡ replicate i [] → i ≡ length batch → AreReaders batch nodes 0 readers
-no_readers batch nodes readers i is len = record {
-  nodes_are = ap length is ∙ length-replicate i [] ∙ len;
-  sound = λ x y r. absurd (nothing_read i x y (subst (λ (rs : List (List ℕ)). Reads rs x y) is r));
-  all = λ x y lt l. absurd (omega (arith, lt));
-}
 
 -- an event with a written clock looks back on nothing
 pub written_reader : (batch : List Event) (nodes : List Node) (i : ℕ) (readers : List (List ℕ)) → is_left_out (event_in batch i) ≡ false → AreReaders batch nodes i readers → AreReaders batch nodes (i + 1) readers

@@ -13,7 +13,7 @@ use Rattle.vector_clock.specs.Messages.{is_same}
 use Rattle.vector_clock.specs.Met.{nowhere, mapped_at}
 use Rattle.vector_clock.specs.Rising.{nothing_kept, rank_of, is_among}
 use Rattle.vector_clock.specs.inside.Met.{IsNoted, IsForgotten, without}
-use Rattle.vector_clock.specs.inside.Rising.{IsNext, IsRising}
+use Rattle.vector_clock.specs.inside.Rising.{IsNext}
 use Rattle.vector_clock.proofs.FirstPlaces.{same_message}
 
 -- what is kept for a message in this list, and in this map where it is not in the list
@@ -331,51 +331,4 @@ all_stays kept old new same m = ap (λ (x : Met). if is_among kept m then (get_o
 
 -- ---- numbers that rise
 
-pub rising_none : IsRising []
-rising_none = record { each = λ i j less there. absurd (omega (arith, there)) }
-
-pub rising_written : (kept : List Kept) (n : Message) (w : Met) (place : ℕ) → is_among kept n ≡ true → place ≡ rank_of kept n.id → IsRising kept → IsRising (set kept place (record { message = n; met = w }))
-rising_written kept n w place is stands rising =
-    let a = alike kept n w is in
-    subst (λ (k : ℕ). IsRising (set kept k (record { message = n; met = w }))) (sym stands) (record {
-      each = λ i j less there. omega (arith, ap (λ (m : Message). m.id) (a.messages i), ap (λ (m : Message). m.id) (a.messages j), rising.each i j less (omega (arith, there, a.size)));
-    })
-
-pub rising_pushed : (kept now : List Kept) (n : Message) (w : Met) → IsNext kept n → now ≡ pushed kept n w → IsRising kept → IsRising now
-rising_pushed kept now n w next is rising =
-    let last = stands_last kept n w next in
-    subst IsRising (sym is) (record {
-      each = λ i j less there. elim (cases_lt j (length kept)) [
-        | inl before ↦ omega (
-          arith,
-          ap (λ (k : Kept). k.message.id) (last.first i (omega (arith, less, before))),
-          ap (λ (k : Kept). k.message.id) (last.first j before),
-          rising.each i j less before,
-        )
-        | inr past ↦
-            let end : j ≡ length kept = omega (arith, past, there, last.size) in
-            omega (
-              arith,
-              ap (λ (k : Kept). k.message.id) (last.first i (omega (arith, less, end))),
-              ap (λ (k : ℕ). (message_at (pushed kept n w) k).id) end,
-              ap (λ (k : Kept). k.message.id) last.last,
-              next i (omega (arith, less, end)),
-            )
-      ];
-    })
-
 -- ---- halves
-
--- all up to a smaller number are smaller
-pub smaller_upto : (kept : List Kept) (id middle : ℕ) → IsRising kept → middle < length kept → (message_at kept middle).id < id → (i : ℕ) → i < middle + 1 → (get_or kept i nothing_kept).message.id < id
-smaller_upto kept id middle rising inside smaller i upto = elim (cases_lt i middle) [
-  | inl before ↦ omega (arith, smaller, rising.each i middle before inside)
-  | inr past ↦ subst (λ (k : ℕ). (message_at kept k).id < id) (let here : middle ≡ i = omega (arith, past, upto) in here) smaller
-]
-
--- all from a greater number on are greater
-pub greater_from : (kept : List Kept) (id middle : ℕ) → IsRising kept → id ≤ (message_at kept middle).id → (i : ℕ) → middle ≤ i → i < length kept → id ≤ (get_or kept i nothing_kept).message.id
-greater_from kept id middle rising greater i from inside = elim (cases_lt middle i) [
-  | inl behind ↦ omega (arith, greater, rising.each middle i behind inside)
-  | inr past ↦ subst (λ (k : ℕ). id ≤ (message_at kept k).id) (let here : middle ≡ i = omega (arith, past, from) in here) greater
-]

@@ -28,7 +28,7 @@ use Rattle.log_rules.specs.Readings.{log_reading}
 use Rattle.log_check.specs.declared.check.LogCheck.{LogCheck}
 use Rattle.log_check.specs.declared.checked.CheckedLog.{CheckedLog}
 use Rattle.watch.specs.declared.predicate.Handed.{Handed}
-use Rattle.log_check.specs.Aims.{Says, Aim, AreWatches, aim_of, names_of, watches_of, rules_of, reading_of}
+use Rattle.log_check.specs.Aims.{Says, Aim, aim_of, names_of, watches_of, rules_of, reading_of}
 use Rattle.log_check.specs.Checked.{IsCheckedLog, IsTrueSoFar, observed_alone}
 use Rattle.log_check.specs.Checking.{IsCheckOf, HasClosed}
 use Rattle.log_part.specs.Fronts.{due_of_front}
@@ -76,11 +76,6 @@ aim_is words stated (text, one, is) =
     ap (λ (t : List ℕ). let a : Aim = record { node = node_of stated.formula.tree; text = t; names = []; watches = λ name states. [] } in a) is.printed
 
 -- ---- no watches
-
-pub watches_none : {X : Type 0} {P : X → Type 0} (handed : List (Handed X P)) → handed ≡ [] → AreWatches handed
-watches_none {X} {P} handed none =
-    let empty : AreWatches {X = X} {P = P} [] = record { few = omega arith; distinct = refl } in
-    subst AreWatches (sym none) empty
 
 pub checks : {X : Type 0} {P : X → Type 0} (says : Says X P) (words : List (List ℕ)) (stated : Stated) (handed : List (Handed X P)) (check : LogCheck X P) → IsFormulaOf words stated → handed ≡ []
     → IsCheckOf says (aim_of stated (names_of handed) (watches_of says handed)) check waiting → IsCheckOf says (aim_for stated.formula.tree) check waiting

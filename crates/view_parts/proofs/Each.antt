@@ -1,7 +1,6 @@
 -- Lists that grow by what is made of one number more.
 use Rattle.std.proofs.Common.{◌≡◌, ℕ, zero, suc, ◌+◌, List, [], ◌∷◌, ◌++◌, refl, sym, ap, subst, ◌∙◌, append_assoc, add-one}
 use Rattle.std.specs.Prelude.{Result, OnOk}
-use Rattle.std.proofs.lemmas.List.{append-nil}
 use Rattle.std.specs.List.{flat_map}
 use Rattle.view_parts.specs.Each.{each_below}
 
@@ -22,14 +21,6 @@ pub flat_map-each : {A B : Type 0} (f : A → List B) (made : ℕ → List A) (n
 flat_map-each f made zero = refl
 flat_map-each {A} {B} f made (suc n) =
     flat_map-append f (each_below n made) (made n) ∙ ap (λ (t : List B). t ++ flat_map f (made n)) (flat_map-each f made n)
-
--- what is told of the next item stands behind what was told of those before it
-pub puts_one : {A B : Type 0} (f : A → List B) (made : ℕ → A) (old out new : List B) (n : ℕ) → out ≡ old ++ flat_map f (each_below n (λ k. made k ∷ [])) → new ≡ out ++ f (made n) → new ≡ old ++ flat_map f (each_below (n + 1) (λ k. made k ∷ []))
-puts_one {A} {B} f made old out new n so_far put =
-    let before = each_below n (λ k. made k ∷ []) in
-    let more : flat_map f (each_below (n + 1) (λ k. made k ∷ [])) ≡ flat_map f before ++ f (made n) =
-    ap (flat_map f) (each_more (λ k. made k ∷ []) n) ∙ flat_map-append f before (made n ∷ []) ∙ ap (λ (t : List B). flat_map f before ++ t) (append-nil (f (made n))) in
-    put ∙ ap (λ (t : List B). t ++ f (made n)) so_far ∙ append_assoc old (flat_map f before) (f (made n)) ∙ ap (λ (t : List B). old ++ t) (sym more)
 
 -- ---- texts that are put one behind the other
 

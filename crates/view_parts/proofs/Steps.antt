@@ -15,19 +15,6 @@ use Rattle.view_parts.specs.Series.{IsLastOf, IsFaultInAll}
 use Rattle.view_parts.specs.inside.Machine.{begun_anew}
 use Rattle.view_parts.proofs.Faults.{AreTakenOn, refused_line, cut_short, whole_reports, one_last}
 
--- another report begins only behind a whole one
-pub stays : (d : Draft) → ((r : Report) → d ≡ draft.Over r → ⊥) → d ≡ begun_anew d
-stays draft.Start within = refl
-stays draft.Titled within = refl
-stays (draft.Numbered batch) within = refl
-stays (draft.Named batch procs) within = refl
-stays (draft.Measured batch procs lengths) within = refl
-stays (draft.Stated batch procs lengths formula) within = refl
-stays (draft.Judged r) within = refl
-stays (draft.Sliced r s) within = refl
-stays (draft.Walked r w steps) within = refl
-stays (draft.Over r) within = absurd (within r refl)
-
 pub line_refused : (text rest front after : List ℕ) (line : ℕ) (d : Draft) (e : Refused ReportFault) → AreTakenOn text rest line d → HasNoFeed front → rest ≡ front ++ 10 ∷ after
     → Faults e (λ f. (f.line ≡ line) × (step (begun_anew d) front ≡ None)) → Faults e (λ f. IsFaultInAll text f.line)
 line_refused text rest front after line d (refused.Fault f) t plain split h = subst (IsFaultInAll text) (sym h.0) (refused_line text rest line d t front after plain split h.1)

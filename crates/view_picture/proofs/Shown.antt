@@ -1,8 +1,7 @@
 -- What the columns tell of which events are shown.
-use Rattle.std.proofs.Common.{◌≡◌, ℕ, zero, suc, ◌+◌, ◌-◌, ◌<◌, ◌≤◌, Bool, true, false, [], length, refl, sym, ap, subst, ◌∙◌, arith, inl, inr}
-use Rattle.std.specs.Prelude.{nat_lt, get_or}
-use Rattle.std.proofs.lemmas.Bool.{cases_Bool, cases_eq, cases_lt}
-use Rattle.std.proofs.lemmas.List.{get_or_past}
+use Rattle.std.proofs.Common.{◌≡◌, ℕ, zero, suc, ◌+◌, ◌-◌, ◌<◌, ◌≤◌, Bool, true, false, [], refl, sym, ap, subst, ◌∙◌, arith, inl, inr}
+use Rattle.std.specs.Prelude.{nat_lt}
+use Rattle.std.proofs.lemmas.Bool.{cases_Bool, cases_eq}
 use Rattle.run_model.specs.Cut.{Clocks, count, lengths}
 use Rattle.run_model.specs.Consistent.{IsEvent, IsOrder}
 use Rattle.run_model.proofs.Orders.{earlier_happened_before}
@@ -21,9 +20,6 @@ not_less a b h = grind arith
 
 pub is_less : (a b : ℕ) → nat_lt a b ≡ true → a < b
 is_less a b h = grind arith
-
-pub is_not_less : (a b : ℕ) → nat_lt a b ≡ false → b ≤ a
-is_not_less a b h = grind arith
 
 -- ---- the columns of one process
 
@@ -109,20 +105,3 @@ last_is_shown rows process (suc n) = elim (cases_Bool (is_shown rows (place proc
         ];
       }
 ]
-
--- an event that is shown has a column of its own
-pub shown_there : (rows : Rows) (p a : ℕ) → is_shown rows (place p a) ≡ true → (0 < a) × (a < length (get_or rows p []))
-shown_there rows p zero h = absurd (omega (arith, is_less (column rows p (zero - 1)) (column rows p zero) h, ap (column rows p) none))
-  where
-    none : zero - 1 ≡ zero
-    none = omega arith
-shown_there rows p (suc a) h = (omega arith, within)
-  where
-    up : column rows p (suc a - 1) < column rows p (suc a)
-    up = is_less (column rows p (suc a - 1)) (column rows p (suc a)) h
-
-    within : suc a < length (get_or rows p [])
-    within = elim (cases_lt (suc a) (length (get_or rows p []))) [
-      | inl lt ↦ lt
-      | inr ge ↦ absurd (omega (arith, up, get_or_past (get_or rows p []) (suc a) 0 ge))
-    ]

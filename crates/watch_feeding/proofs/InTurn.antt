@@ -52,17 +52,6 @@ one_value o x y is are = cc
 pub no_value : {X : Type 0} (o : Option X) (x : X) → o ≡ Some x → o ≡ None → ⊥
 no_value o x is none = cc
 
-pub none_fed : {H N : Type 0} (answers : H → Answering) (name : H → N) (states : StatesView) (watch_process : List (Option ℕ)) (from : List ℕ) (old : List H) (old_rows : List (List Bool))
-    → FedBelow answers name states watch_process from old old_rows 0 old old_rows
-none_fed answers name states watch_process from old old_rows = record {
-  count = refl;
-  rows = record { count = refl; size = λ w. refl; kept = λ w. refl; others = λ w none. refl };
-  fed = λ w p before after below. absurd (omega arith);
-  above = λ w from. (refl, refl);
-  others = λ w none. refl;
-  names = λ w before after is are. ap name (one_value (slice_get old w) after before are is);
-}
-
 -- the next watch may be fed
 pub may_be_fed : (states : StatesView) (watch_process : List (Option ℕ)) (from : List ℕ) (old now : List (List Bool)) (w p : ℕ) → HaveRows states watch_process old → get_or watch_process w None ≡ Some p
     → ((q : ℕ) → AreFull states watch_process old q) → AreWithin watch_process from old → RowsAreFed watch_process from old now → MayBeFed states p (get_or from w 0) (get_or now w [])
@@ -151,11 +140,3 @@ turn_taken {H = H} answers name states watch_process from old old_rows next p ne
         let old_row : get_or old_rows w [] ≡ get_or new_rows next [] = ap (λ (v : ℕ). get_or old_rows v []) e ∙ sym (so_far.above next (omega arith)).1 in
         let number : get_or from w 0 ≡ get_or from next 0 = ap (λ (v : ℕ). get_or from v 0) e in
         rw (first, last, process, old_row, number, row_here w e) (turn.fed rest)
-
--- all watches are fed, and each row has as many truths as before
-pub rows_stay_full : (states : StatesView) (watch_process : List (Option ℕ)) (from : List ℕ) (old new : List (List Bool)) → RowsAreFed watch_process from old new
-    → ((p : ℕ) → AreFull states watch_process old p) → (p : ℕ) → AreFull states watch_process new p
-rows_stay_full states watch_process from old new fed full p w on =
-    let was = full p w on in
-    let count = fed.count in
-    (omega (arith, was.0), fed.size w ∙ was.1)

@@ -1,12 +1,11 @@
 -- Rows that are lengthened.
-use Rattle.std.proofs.Common.{◌≡◌, ℕ, zero, suc, ◌+◌, ◌<◌, ◌≤◌, inl, inr, Bool, List, [], ◌∷◌, ◌++◌, Option, Some, None, length, take, drop, set, map, get_or, slice_get, refl, ap, sym, ◌∙◌, arith, append-nil, length-append}
-use Rattle.std.proofs.lemmas.List.{length-map, length-set, get_or-set_same, get_or-set_other, map_more, take_all, take-append-drop}
+use Rattle.std.proofs.Common.{◌≡◌, ℕ, zero, suc, ◌+◌, ◌<◌, ◌≤◌, inl, inr, Bool, List, [], ◌∷◌, ◌++◌, Option, Some, None, length, take, drop, set, map, get_or, slice_get, refl, ap, sym, ◌∙◌, arith, length-append}
+use Rattle.std.proofs.lemmas.List.{length-map, length-set, get_or-set_same, get_or-set_other, map_more, take-append-drop}
 use Rattle.std.proofs.Math.Seq.{take-append_seam}
 use Rattle.std.proofs.lemmas.Option.{get_or_from_slice_get}
 use Rattle.local_preds.proofs.RowSteps.{lens-get_or}
 use Rattle.event_log.specs.States.{StatesView}
 use Rattle.local_preds.specs.Rows.{len_at}
-use Rattle.local_preds.specs.LocalRuns.{AreFull}
 use Rattle.watch_feeding.specs.Fed.{AreWithin, RowsHaveGrown, RowsAreFed}
 use Rattle.watch_feeding.proofs.InTurn.{same_or_other, one_value, no_value}
 
@@ -16,17 +15,6 @@ pub record LongBelow (states : StatesView) (watch_process : List (Option ℕ)) (
   pub told : lens ≡ map length (take next old)
   pub full : (w p : ℕ) → w < next → get_or watch_process w None ≡ Some p → length (get_or new w []) ≡ len_at states p + 1
   pub above : (w : ℕ) → next ≤ w → get_or new w [] ≡ get_or old w []
-
-pub none_grown : (watch_process : List (Option ℕ)) (old : List (List Bool)) → RowsHaveGrown watch_process old old
-none_grown watch_process old = record { count = refl; longer = λ w p on. ([], sym (append-nil (get_or old w []))); others = λ w none. refl }
-
-pub none_long : (states : StatesView) (watch_process : List (Option ℕ)) (old : List (List Bool)) → LongBelow states watch_process old 0 [] old
-none_long states watch_process old = record {
-  grown = none_grown watch_process old;
-  told = refl;
-  full = λ w p below. absurd (omega arith);
-  above = λ w above. refl;
-}
 
 -- the next row is lengthened
 pub one_grows : (watch_process : List (Option ℕ)) (old : List (List Bool)) (next p : ℕ) (new : List (List Bool)) (row : List Bool)
@@ -83,22 +71,6 @@ one_stays states watch_process old next len lens lens' new none place size pushe
   ];
   above = λ w above. so_far.above w (omega arith);
 }
-
--- all rows are long enough
-pub all_long : (states : StatesView) (watch_process : List (Option ℕ)) (old : List (List Bool)) (next : ℕ) (lens : List ℕ) (new : List (List Bool)) → length old ≡ length watch_process → next ≡ length watch_process
-    → LongBelow states watch_process old next lens new → (p : ℕ) → AreFull states watch_process new p
-all_long states watch_process old next lens new count end so_far p w on =
-    let there = on_is_there watch_process w p on in
-    let c = so_far.grown.count in
-    (omega arith, so_far.full w p (omega arith) on)
-  where
-    on_is_there : (processes : List (Option ℕ)) (w p : ℕ) → get_or processes w None ≡ Some p → w < length processes
-    on_is_there [] w p on = absurd (cc)
-    on_is_there (o ∷ os) zero p on = omega arith
-    on_is_there (o ∷ os) (suc w) p on = let h = on_is_there os w p on in omega arith
-
-pub all_lens : (old : List (List Bool)) (next : ℕ) (lens : List ℕ) → length old ≡ next → lens ≡ map length (take next old) → lens ≡ map length old
-all_lens old next lens end is = is ∙ ap (λ (rows : List (List Bool)). map length rows) (take_all next old (omega arith))
 
 pub len_is : (states : StatesView) (p len : ℕ) (shape : List ℕ) → shape ≡ map length states.events → len ≡ get_or shape p 0 → len ≡ len_at states p
 len_is states p len shape lens is = is ∙ ap (λ (l : List ℕ). get_or l p 0) lens ∙ lens-get_or states.events p

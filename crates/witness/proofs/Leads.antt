@@ -1,7 +1,7 @@
 -- Why a walk never sticks, and how its steps grow.
 use Rattle.std.proofs.Common.{◌≡◌, ℕ, zero, suc, ◌+◌, ◌-◌, ◌<◌, ◌≤◌, List, [], ◌∷◌, ◌++◌, length, map, sum, refl, sym, ap, subst, ◌∙◌, arith, inl, inr}
-use Rattle.std.specs.Prelude.{◌↔◌, IsTrue, Bool, true, false, Option}
-use Rattle.std.proofs.lemmas.Bool.{cases_lt, true≢false}
+use Rattle.std.specs.Prelude.{◌↔◌, IsTrue, Bool, true, Option}
+use Rattle.std.proofs.lemmas.Bool.{cases_lt}
 use Rattle.std.proofs.lemmas.List.{map_push}
 use Rattle.run_model.specs.Cut.{Cut, Clocks, count, IsWithin, max_cut, with_next, lengths, initial}
 use Rattle.run_model.specs.Consistent.{clock, IsEvent, IsOrder, IsConsistent}
@@ -78,16 +78,6 @@ arrived A start goal at es leads steps none = subst (λ (c : Cut). FirstSteps A 
 
 -- ---- a step to a goal
 
-pub goal_step : (o : Clocks) (goal c : Cut) (p : ℕ) (b : Bool) → IsConsistent o c → IsWithin c goal → p < length c → count c p < count goal p
-    → (IsTrue b ↔ ((count c p < count (lengths o) p) × IsConsistent o (with_next c p))) → IsTrue b ↔ (IsConsistent o (with_next c p) × IsWithin (with_next c p) goal)
-goal_step o goal c p b k h lt less same = (
-  λ yes. ((same.0 yes).1, with_next_least c goal p lt h (omega arith)),
-  λ next. same.1 (omega (arith, next.0.within p, with_next_same c p lt), next.0),
-)
-
-pub goal_stops : (o : Clocks) (goal c : Cut) (p : ℕ) → p < length c → count goal p ≤ count c p → IsTrue false ↔ (IsConsistent o (with_next c p) × IsWithin (with_next c p) goal)
-goal_stops o goal c p lt least = (λ f. absurd (true≢false (sym f)), λ next. absurd (omega (arith, next.1 p, with_next_same c p lt)))
-
 -- ---- a step through a slice is one look-up
 
 max_is_next : (c j : Cut) (i : ℕ) → i < length c → length j ≡ length c → IsWithin j (with_next c i) → count c i + 1 ≤ count j i → max_cut c j ≡ with_next c i
@@ -123,9 +113,3 @@ slice_step o v c p b operand member lt less same =
       λ yes. row_leads o operand.run.order s operand.fits.stands c member p lt event (subst (λ (k : Option Cut). HasWithin k (with_next c p)) row (words.0 (same.0 yes))),
       λ next. same.1 (words.1 (subst (λ (k : Option Cut). HasWithin k (with_next c p)) (sym row) (leads_row o s c p lt next))),
     )
-
-pub slice_stops : (o : Clocks) (v : SliceView) (c : Cut) (p : ℕ) → IsOperand o v → p < length c → count v.lens p ≤ count c p → IsTrue false ↔ Cuts o (slice_of v) (with_next c p)
-slice_stops o v c p operand lt least = (
-  λ f. absurd (true≢false (sym f)),
-  λ next. absurd (omega (arith, next.consistent.within p, with_next_same c p lt, ap (λ (l : Cut). count l p) operand.fits.shape)),
-)

@@ -1,6 +1,6 @@
 -- What the tests of events answer.
 use Rattle.std.proofs.Common.{◌≡◌, ℕ, zero, suc, ◌+◌, ◌<◌, ◌≤◌, Bool, true, false, List, [], ◌∷◌, length, refl, sym, ap, subst, ◌∙◌, arith, inl, inr}
-use Rattle.std.specs.Prelude.{◌↔◌, IsTrue, Option, Some, None, MatchOption, is_some}
+use Rattle.std.specs.Prelude.{◌↔◌, IsTrue, Option, Some, None}
 use Rattle.std.specs.Str.{bytes_eq}
 use Rattle.std.proofs.lemmas.Bool.{cases_lt, true≢false}
 use Rattle.std.proofs.lemmas.Slice.Eq.{bytes_eq-Decides}
@@ -8,50 +8,17 @@ use Rattle.run_model.specs.Cut.{Cut, Clocks, count, IsWithin, lengths}
 use Rattle.run_model.specs.Consistent.{clock, IsEvent, IsConsistent}
 use Rattle.run_model.specs.Sublattice.{Having}
 use Rattle.run_model.specs.Slice.{Slice, Cuts, IsLeastOf}
-use Rattle.run_model.specs.Witness.{Place, AreTwo, IsPlace, IsBefore, IsFirst, row_at, Departs, Shares}
+use Rattle.run_model.specs.Witness.{Place, AreTwo, IsPlace, IsBefore, row_at, Departs, Shares}
 use Rattle.run_model.proofs.Counts.{count_past}
 use Rattle.pota_base.specs.declared.shape.EventId.{EventId}
 use Rattle.pota_base.specs.Shape.{HasEvent}
 use Rattle.slice_graph.specs.Views.{SliceView, slice_of, IsRow}
 use Rattle.slice_graph.specs.Words.{filled, row_words}
 use Rattle.witness.specs.Views.{place_of}
-use Rattle.witness.specs.inside.Searches.{IsFirstOf}
 use Rattle.witness.specs.inside.Twins.{HasLaterTwin, LastHas, IsOperand, HasFinal}
 use Rattle.witness.proofs.Twinned.{row_from, row_there, own_later, other_later, none_later, words_of, filled_some, filled_one}
 
 -- ---- searches
-
-pub first_is : (o : Clocks) (P : Place → Type 0) (p : ℕ) (e : EventId) → IsFirstOf P p (count (lengths o) p) e → ((f : Place) → IsPlace o f → f.process < p → P f → ⊥) → IsFirst o P (place_of e)
-first_is o P p e h before = record {
-  there = (h.some, omega (arith, h.last, ap (λ (i : ℕ). count (lengths o) i) h.of));
-  has = h.has;
-  first = λ f there earlier has. elim earlier [
-    | inl less ↦ before f there (omega (arith, less, h.of)) has
-    | inr same ↦ h.first f.position there.0 same.1 (subst (λ (i : ℕ). P (record { process = i; position = f.position })) (same.0 ∙ h.of) has)
-  ];
-}
-
-pub found_first : (o : Clocks) (P : Place → Type 0) (p : ℕ) (r : Option EventId) → is_some r ≡ true → MatchOption r ((a : ℕ) → 0 < a → a ≤ count (lengths o) p → P (record { process = p; position = a }) → ⊥) (IsFirstOf P p (count (lengths o) p))
-    → ((f : Place) → IsPlace o f → f.process < p → P f → ⊥) → MatchOption r ((e : Place) → IsPlace o e → P e → ⊥) (λ e. IsFirst o P (place_of e))
-found_first o P p None some h before = absurd (true≢false (sym some))
-found_first o P p (Some e) some h before = first_is o P p e h before
-
-pub none_in : (o : Clocks) (P : Place → Type 0) (p : ℕ) (r : Option EventId) → is_some r ≡ false → MatchOption r ((a : ℕ) → 0 < a → a ≤ count (lengths o) p → P (record { process = p; position = a }) → ⊥) (IsFirstOf P p (count (lengths o) p))
-    → ((f : Place) → IsPlace o f → f.process < p → P f → ⊥) → (f : Place) → IsPlace o f → f.process < p + 1 → P f → ⊥
-none_in o P p (Some e) none h before f there less has = true≢false none
-none_in o P p None none h before f there less has = elim (cases_lt f.process p) [
-  | inl earlier ↦ before f there earlier has
-  | inr here ↦
-      let same : f.process ≡ p = omega arith in
-      h f.position there.0 (omega (arith, there.1, ap (λ (i : ℕ). count (lengths o) i) same)) (subst (λ (i : ℕ). P (record { process = i; position = f.position })) same has)
-]
-
--- no event is of a process that is not there
-pub none_left : (o : Clocks) (P : Place → Type 0) (p : ℕ) → length (lengths o) ≤ p → ((f : Place) → IsPlace o f → f.process < p → P f → ⊥) → (f : Place) → IsPlace o f → P f → ⊥
-none_left o P p all before f there has = elim (cases_lt f.process p) [
-  | inl earlier ↦ before f there earlier has
-  | inr past ↦ omega (arith, there.0, there.1, count_past (lengths o) f.process (omega arith))
-]
 
 -- ---- events whose row is not their past
 

@@ -1,5 +1,5 @@
 -- Inside: a formula's parts with numbers in place of names, part by part.
-use Rattle.std.specs.Prelude.{◌≡◌, List, map, Option, None}
+use Rattle.std.specs.Prelude.{◌≡◌, List, [], map, Option, None, Some}
 use Rattle.rctl_grammar.specs.declared.tree.Operator.TheVariants as operator
 use Rattle.rctl_parts.specs.declared.expr.LocalSide.TheVariants as number_side
 use Rattle.rctl_parts.specs.Exprs as expr
@@ -8,6 +8,10 @@ use Rattle.rctl_parts.specs.MadeFor as made
 use Rattle.rctl_class.specs.declared.named.NamedSide.TheVariants as named_side
 use Rattle.rctl_class.specs.NamedParts as named
 use Rattle.rctl_grammar.specs.declared.fault.FormulaFault.{FormulaFault}
+use Rattle.pota_base.specs.declared.fault.Refused.{Refused}
+use Rattle.rctl_parse.specs.Reading.{Faults}
+use Rattle.rctl_parts.specs.Spelled.{Names}
+use Rattle.rctl_parts.specs.declared.part.Part.{Part}
 use Rattle.rctl_names.specs.declared.process.Process.{Process}
 use Rattle.rctl_names.specs.declared.scope.Scope.{Scope}
 use Rattle.rctl_names.specs.declared.watches.Watches.{Watches}
@@ -46,6 +50,18 @@ IsPieceIn scope old new p made =
     (part_fault (names_in scope old) (watched_in old) p ≡ None)
     × (watched_in new ≡ part_after (names_in scope old) (watched_in old) p)
     × (made ≡ piece_in (names_in scope old) p)
+
+-- the first fault of the names of a part without watches
+abbrev pub fault_in : Names → named.NamedPiece → Option FormulaFault
+fault_in names p = part_fault names (record { names = []; on = [] }) p
+
+-- a part without watches, with numbers
+abbrev pub IsPartIn : Names → named.NamedPiece → Part → Type 0
+IsPartIn names p made = (fault_in names p ≡ None) × (piece.piece_of made ≡ piece_in names p)
+
+-- a stop for that fault
+abbrev pub FaultsOf : Names → named.NamedPiece → Refused FormulaFault → Type 0
+FaultsOf names p stop = Faults stop (λ f. fault_in names p ≡ Some f)
 
 -- the parts of a conjunction, with numbers
 abbrev pub ArePiecesIn : Scope → Watches → Watches → named.Pieces → piece.Pieces → Type 0

@@ -1,6 +1,6 @@
 use Rattle.std.proofs.Common.{map, string_bytes, take}
 use Rattle.part_pulls.specs.Observing.{clocks_seen}
-use Rattle.question_outcomes.specs.Telling.{HasSystem}
+use Rattle.instance_outcomes.specs.PassedOn.{HasSystem}
 use Rattle.over_answers.specs.Tallies.{AreTallies}
 use Rattle.over_answers.proofs.answering.answer_overs.Given as goal
 

@@ -3,14 +3,14 @@ use Rattle.std.proofs.lemmas.Result.{on_ok_weaker}
 use Rattle.run_model.specs.Cut.{Cut}
 use Rattle.pull_system.specs.Rows.{RowsView}
 use Rattle.slice_graph.specs.Views.{SliceView}
-use Rattle.slice_graph.specs.inside.Pushing.{PushesRows}
+use Rattle.slice_graph.specs.inside.Pushing.{PushesRows, so_far}
 use Rattle.slice_graph.proofs.Pushing.{rows_of_process}
 use Rattle.slice_graph.proofs.kept_rows.push_process.Goals as goal
 
 -- the rows by the numbers that the shape tells
-pushed_at : (v : RowsView) (first count begin len : ℕ) (old new : SliceView) (before now : Cut) → first ≡ begin → count ≡ len → PushesRows v first count old new before now → PushesRows v begin len old new before now
+pushed_at : (v : RowsView) (first count begin len : ℕ) (old new : SliceView) (before now : Cut) → first ≡ begin → count ≡ len → PushesRows v first count (so_far old before) (so_far new now) → PushesRows v begin len (so_far old before) (so_far new now)
 pushed_at v first count begin len old new before now at many p =
-    subst (λ (n : ℕ). PushesRows v begin n old new before now) many (subst (λ (b : ℕ). PushesRows v b count old new before now) at p)
+    subst (λ (n : ℕ). PushesRows v begin n (so_far old before) (so_far new now)) many (subst (λ (b : ℕ). PushesRows v b count (so_far old before) (so_far new now)) at p)
 
 pub rise-requires-clause-rows : goal.rise-requires-clause-rows
 rise-requires-clause-rows c =
