@@ -13,9 +13,9 @@ pota=$(realpath -m "${1:-$here/../../crates/pota/out/pota}")
 verify=$(realpath -m "${2:-$here/../../crates/pota_verify/out/pota_verify}")
 . "$here/../scratch.sh"
 formula='EF (P1.n >= 1000 & P16.n >= 1000)'
-scratch_crates $(crates_below trace_gen)
+scratch_crates $(crates_below trace_gen log_writing)
 mkdir -p "$scratch/crates/made_log/src"
-echo "made_log: pota_base event_log trace_gen" >> "$scratch/crates.txt"
+echo "made_log: pota_base log_writing trace_gen" >> "$scratch/crates.txt"
 
 # made_log PROCESSES EVENTS
 made_log() {
