@@ -1,5 +1,5 @@
 -- What operators over a slice ask of cuts.
-use Rattle.std.proofs.Common.{◌≡◌, ℕ, ◌*◌, List, ◌++◌, length, All, ◌∙◌, ap, subst}
+use Rattle.std.proofs.Common.{◌≡◌, ℕ, ◌*◌, List, ◌++◌, length, All, sym, ◌∙◌, ap, subst}
 use Rattle.std.specs.Prelude.{◌↔◌}
 use Rattle.run_model.specs.Cut.{Cut, Clocks}
 use Rattle.run_model.specs.Consistent.{IsConsistent}
@@ -8,15 +8,18 @@ use Rattle.run_model.specs.Slice.{Cuts}
 use Rattle.rctl_grammar.specs.declared.tree.Operator.{Operator}
 use Rattle.rctl_grammar.specs.declared.tree.Operator.TheVariants as operator
 use Rattle.pull_system.specs.declared.pull.Pull.{Pull}
-use Rattle.pull_system.specs.System.{IsPull}
+use Rattle.pull_system.specs.System.{SystemView, IsPull}
 use Rattle.pull_system.specs.Pulls.{ClosedUnder}
+use Rattle.pull_system.proofs.PullLists.{closed_under}
 use Rattle.slice_graph.specs.Views.{SliceView, HasAllRows, slice_of}
 use Rattle.slice_graph.specs.Fitting.{FitsOrder}
 use Rattle.slice_graph.specs.PullLists.{pulls_of_slice}
 use Rattle.slice_graph.proofs.SlicePulls.{slice_pulls_fit, slice_pulls_count, slice_closed}
 use Rattle.part_pulls.specs.Operating.{Operated}
 use Rattle.part_pulls.proofs.Slices.{cut_of_lengths, cut_is}
+use Rattle.conjunctions.specs.inside.Beginning.{AsksAlone}
 use Rattle.conjunctions.specs.inside.Gathering.{AddsOperator}
+use Rattle.conjunctions.specs.inside.Settling.{IsSliceOfSystem}
 
 -- the pulls of an operator's own slice
 pub operated_adds : (o : Clocks) (operator : Operator) (operand slice : SliceView) (old new : List Pull) → FitsOrder o slice → HasAllRows slice
@@ -44,4 +47,15 @@ next_adds o process operand old new added fits is fit count closed = record {
   count = count ∙ ap (λ (lens : List ℕ). length lens * length lens) fits.shape;
   closed = closed;
   orders = λ gives. absurd (cc);
+}
+
+-- a slice that asks alone has the cuts that are closed under the system
+pub alone_is_slice : (o : Clocks) (system : SystemView) (slice : SliceView) → AsksAlone o system.pulls slice → IsSliceOfSystem o system slice
+alone_is_slice o system slice asks = record {
+  fits = asks.fits;
+  cuts = λ c consistent.
+      let closed = slice_closed o slice asks.fits asks.rows c (cut_is o slice asks.fits c consistent) in
+      let under = closed_under system c in
+      let P : List Pull → Type 0 = λ pulls. ClosedUnder pulls c in
+      (λ h. under.1 (subst P (sym asks.own) (closed.1 h)), λ h. closed.0 (subst P asks.own (under.0 h)));
 }

@@ -1,5 +1,5 @@
 -- Where the rows of a conjunction begin.
-use Rattle.std.proofs.Common.{◌≡◌, ℕ, zero, suc, ◌+◌, ◌*◌, ◌/◌, ◌%◌, ◌<◌, ◌≤◌, ◌⊎◌, inl, inr, true, List, ◌++◌, length, sum, get_or, Option, sym, ◌∙◌, ap, subst, arith}
+use Rattle.std.proofs.Common.{◌≡◌, ℕ, zero, suc, ◌+◌, ◌*◌, ◌/◌, ◌%◌, ◌<◌, ◌≤◌, ◌⊎◌, inl, inr, Bool, true, false, List, ◌++◌, length, sum, get_or, Option, Some, None, refl, sym, ◌∙◌, ap, subst, arith}
 use Rattle.std.specs.Prelude.{IfSome}
 use Rattle.std.proofs.Math.Nat.{mod-add-div', mod-lt, mul-le-mul, mul-le-mul_left}
 use Rattle.std.proofs.lemmas.List.{get_or_past}
@@ -21,7 +21,7 @@ use Rattle.slice_graph.specs.Starting.{AreWithinClosed}
 use Rattle.slice_graph.proofs.SlicePulls.{slice_pulls_fit, slice_pulls_count}
 use Rattle.slice_graph.proofs.Alone.{rows_alone}
 use Rattle.bound_table.specs.Firm.{AreOwnRows}
-use Rattle.conjunctions.specs.inside.Beginning.{GatheredView, MayBeginFrom, FloorFits}
+use Rattle.conjunctions.specs.inside.Beginning.{GatheredView, MayBeginFrom, FloorFits, GatheredFits, AsksAlone}
 use Rattle.conjunctions.proofs.OwnRows.{slice_own}
 
 -- ---- more pulls
@@ -35,7 +35,7 @@ within_more lens some all words fewer within = record {
 }
 
 -- rows stay where pulls are put behind the others
-pub floor_more : (lens : List ℕ) (old new : GatheredView) (added : List Pull) → new.pulls ≡ old.pulls ++ added → new.floor ≡ old.floor → (new.alone ≡ true → ⊥) → FloorFits lens old → FloorFits lens new
+floor_more : (lens : List ℕ) (old new : GatheredView) (added : List Pull) → new.pulls ≡ old.pulls ++ added → new.floor ≡ old.floor → (new.alone ≡ true → ⊥) → FloorFits lens old → FloorFits lens new
 floor_more lens old new added pulls floor others fits = record {
   begins = subst (λ (f : Option RowsView). IfSome f (MayBeginFrom lens new.pulls)) (sym floor) (IfSome_then old.floor fits.begins more);
   own = λ is. absurd (others is);
@@ -48,6 +48,32 @@ floor_more lens old new added pulls floor others fits = record {
           subst (λ (list : List Pull). AreWithinClosed lens list rows.words) (sym pulls)
           (within_more lens old.pulls (old.pulls ++ added) rows.words (closed_left old.pulls added) may.within);
     }
+
+-- no slice asks alone
+pub no_slice : (o : Clocks) (pulls : List Pull) (slice : Option SliceView) → slice ≡ None → IfSome slice (AsksAlone o pulls)
+no_slice o pulls slice none = subst (λ (s : Option SliceView). IfSome s (AsksAlone o pulls)) (sym none) tt
+
+pub gathered_more : (o : Clocks) (old new : GatheredView) (added : List Pull) → new.pulls ≡ old.pulls ++ added → new.floor ≡ old.floor → (new.alone ≡ true → ⊥) → new.slice ≡ None → GatheredFits o old → GatheredFits o new
+gathered_more o old new added pulls floor others none fits = record {
+  floor = floor_more (lengths o) old new added pulls floor others fits.floor;
+  slice = no_slice o new.pulls new.slice none;
+}
+
+-- a slice that asks alone is kept, and another one is not
+pub kept_fits : (o : Clocks) (old new : GatheredView) (slice : SliceView) → FitsOrder o slice → HasAllRows slice → (old.alone ≡ true → old.pulls ≡ pulls_of_slice slice) → GatheredFits o old
+    → new.pulls ≡ old.pulls → new.floor ≡ old.floor → new.alone ≡ old.alone → (old.alone ≡ true → new.slice ≡ Some slice) → (old.alone ≡ false → new.slice ≡ old.slice) → GatheredFits o new
+kept_fits o old new slice fits rows own before pulls floor same kept others = record {
+  floor = record {
+    begins = subst (λ (f : Option RowsView). IfSome f (MayBeginFrom (lengths o) new.pulls)) (sym floor) (subst (λ (list : List Pull). IfSome old.floor (MayBeginFrom (lengths o) list)) (sym pulls) before.floor.begins);
+    own = λ is. subst (λ (f : Option RowsView). IfSome f (λ r. AreOwnRows (record { lens = lengths o; pulls = new.pulls }) r.words)) (sym floor)
+        (subst (λ (list : List Pull). IfSome old.floor (λ r. AreOwnRows (record { lens = lengths o; pulls = list }) r.words)) (sym pulls) (before.floor.own (sym same ∙ is)));
+  };
+  slice = slice_by old.alone refl;
+}
+  where
+    slice_by : (alone : Bool) → old.alone ≡ alone → IfSome new.slice (AsksAlone o new.pulls)
+    slice_by true is = subst (λ (s : Option SliceView). IfSome s (AsksAlone o new.pulls)) (sym (kept is)) (record { fits = fits; rows = rows; own = pulls ∙ own is })
+    slice_by false is = subst (λ (s : Option SliceView). IfSome s (AsksAlone o new.pulls)) (sym (others is)) (subst (λ (list : List Pull). IfSome old.slice (AsksAlone o list)) (sym pulls) before.slice)
 
 -- the rows of a slice whose pulls were put behind others
 pub slice_floor : (o : Clocks) (slice : SliceView) (old new : List Pull) (rows : RowsView) → FitsOrder o slice → new ≡ old ++ pulls_of_slice slice → rows.lens ≡ slice.lens

@@ -8,9 +8,9 @@ use Rattle.slice_workers.specs.Views.{SettledView}
 use Rattle.rctl_parts.specs.Pieces.{Piece}
 use Rattle.part_pulls.specs.declared.observed.Observed.{Observed}
 use Rattle.conjunctions.specs.declared.answer.PartAnswer.{PartAnswer}
-use Rattle.part_pulls.specs.Observing.{clocks_seen, lens_seen}
+use Rattle.part_pulls.specs.Observing.{clocks_seen}
 use Rattle.conjunctions.specs.Numbering.{within, conjunctions_in}
-use Rattle.conjunctions.specs.inside.Beginning.{GatheredView, FloorFits}
+use Rattle.conjunctions.specs.inside.Beginning.{GatheredView, GatheredFits}
 use Rattle.conjunctions.specs.Rounds.{RoundView, HasOrderSystem}
 use Rattle.conjunctions.specs.inside.Gathering.{AddsPulls}
 use Rattle.conjunctions.specs.Settling.{AreFloors, Settles}
@@ -23,12 +23,12 @@ use Rattle.conjunctions.proofs.Adding.{adds_none, adds_more, answers_none, answe
 pub record PartsAdded (seen : Observed) (workers disjunct : ℕ) (round now : RoundView) (steps steps_now : ℕ) (answers answers_now : List PartAnswer) (begun : List Pull) (gathered : GatheredView) (ps : List Piece) : Type 0 where
   pub adds : AddsPulls seen begun gathered.pulls ps
   pub order : gathered.order ≡ clocks_seen seen
-  pub floor : FloorFits (lens_seen seen) gathered
+  pub floor : GatheredFits (clocks_seen seen) gathered
   pub settles : Settles seen workers round now (spent_of steps steps_now) (flat_map within ps)
   pub told : AddsAnswers seen answers answers_now (places_from disjunct 1 ps)
 
 pub added_none : (seen : Observed) (workers disjunct : ℕ) (round : RoundView) (steps : ℕ) (answers : List PartAnswer) (begun : List Pull) (gathered : GatheredView) → gathered.pulls ≡ begun
-    → gathered.order ≡ clocks_seen seen → FloorFits (lens_seen seen) gathered → HasOrderSystem (clocks_seen seen) round → PartsAdded seen workers disjunct round round steps steps answers answers begun gathered []
+    → gathered.order ≡ clocks_seen seen → GatheredFits (clocks_seen seen) gathered → HasOrderSystem (clocks_seen seen) round → PartsAdded seen workers disjunct round round steps steps answers answers begun gathered []
 added_none seen workers disjunct round steps answers begun gathered is order floor shared = record {
   adds = subst (λ (list : List Pull). AddsPulls seen begun list []) (sym is) (adds_none seen begun);
   order = order;
@@ -38,7 +38,7 @@ added_none seen workers disjunct round steps answers begun gathered is order flo
 }
 
 pub added_more : (seen : Observed) (workers disjunct : ℕ) (round now next : RoundView) (s t u : ℕ) (a b c : List PartAnswer) (begun : List Pull) (gathered more : GatheredView) (ps : List Piece) (p : Piece) (answer : PartAnswer)
-    → PartsAdded seen workers disjunct round now s t a b begun gathered ps → AddsPulls seen gathered.pulls more.pulls (p ∷ []) → more.order ≡ gathered.order → FloorFits (lens_seen seen) more → Settles seen workers now next (spent_of t u) (within p)
+    → PartsAdded seen workers disjunct round now s t a b begun gathered ps → AddsPulls seen gathered.pulls more.pulls (p ∷ []) → more.order ≡ gathered.order → GatheredFits (clocks_seen seen) more → Settles seen workers now next (spent_of t u) (within p)
     → IsPartAnswer seen (place disjunct (length ps + 1) p) answer → c ≡ b ++ answer ∷ [] → PartsAdded seen workers disjunct round next s u a c begun more (ps ++ p ∷ [])
 added_more seen workers disjunct round now next s t u a b c begun gathered more ps p answer added adds order floor settles is c_is = record {
   adds = adds_more seen begun gathered.pulls more.pulls ps (p ∷ []) added.adds adds;

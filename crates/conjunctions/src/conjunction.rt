@@ -8,7 +8,7 @@ ghost use Rattle.part_pulls.specs.Observing.{IsReady, scope_seen, clocks_seen, l
 ghost use Rattle.conjunctions.specs.Numbering.{within, conjunctions_in};
 ghost use Rattle.part_pulls.specs.Counters.{AllRise, counters_of_parts};
 ghost use Rattle.conjunctions.specs.inside.Gathering.{AddsPulls};
-ghost use Rattle.conjunctions.specs.inside.Beginning.{FloorFits};
+ghost use Rattle.conjunctions.specs.inside.Beginning.{GatheredFits};
 ghost use Rattle.conjunctions.specs.Settling.{CanSettle, Settles};
 ghost use Rattle.conjunctions.specs.inside.Settling.{CanSettlePart};
 ghost use Rattle.conjunctions.specs.Answering.{IsSliceOf, IsPartAnswer, places_from};
@@ -87,12 +87,12 @@ fn add_part<R: Threads + Sync, G: Gate, L: Ledger>(
 ) -> Result<PartAnswer, NoMemory>
     requires ready { IsReady seen.now }
     requires part { CanSettlePart seen.now round.old (piece_of part.now) }
-    requires floor { FloorFits (lens_seen seen.now) gathered.old }
+    requires floor { GatheredFits (clocks_seen seen.now) gathered.old }
     ensures answer { IfOk result
         (IsPartAnswer seen.now (place disjunct number (piece_of part.now))) }
     ensures pulls { OnOk result
         (AddsPulls seen.now gathered.old.pulls gathered.new.pulls (piece_of part.now ∷ [])) }
-    ensures floor { OnOk result (FloorFits (lens_seen seen.now) gathered.new) }
+    ensures floor { OnOk result (GatheredFits (clocks_seen seen.now) gathered.new) }
     ensures order { OnOk result (gathered.new.order ≡ gathered.old.order) }
     ensures settles { OnOk result (Settles seen.now means.now.workers round.old round.new
         (spent_of steps.old steps.new) (within (piece_of part.now))) }

@@ -1,7 +1,7 @@
 //! What the parts of a conjunction ask of its cuts.
 ghost use Rattle.std.specs.Prelude.{◌≡◌, ◌++◌, [], None, false, All, IfOk, OnOk, true};
 ghost use Rattle.std.specs.Option.{option_or};
-ghost use Rattle.run_model.specs.Cut.{Clocks, lengths};
+ghost use Rattle.run_model.specs.Cut.{Clocks};
 ghost use Rattle.pull_system.specs.System.{IsPull};
 ghost use Rattle.pull_fans.specs.Fans.{pulls_of_fans};
 ghost use Rattle.slice_graph.specs.Views.{HasAllRows};
@@ -11,7 +11,7 @@ ghost use Rattle.rctl_parts.specs.Pieces.{pieces_of};
 ghost use Rattle.conjunctions.specs.inside.Numbering.{gives_order};
 ghost use Rattle.conjunctions.specs.inside.Gathering.{first_pulls};
 ghost use Rattle.conjunctions.specs.inside.Asked.{asked_pulls};
-ghost use Rattle.conjunctions.specs.inside.Beginning.{FloorFits};
+ghost use Rattle.conjunctions.specs.inside.Beginning.{GatheredFits};
 
 use crate::kinds::{are_atoms, give_order};
 use causal_order::Order;
@@ -59,6 +59,8 @@ pub struct Gathered {
     own: Option<Rows>,
     /// Whether that slice asks alone, so that these rows, its own, are the least already.
     alone: bool,
+    /// The slice, where it asks alone: it is the conjunction's.
+    slice: Option<Slice>,
 }
 
 impl Model for Gathered {
@@ -75,6 +77,7 @@ impl Model for Gathered {
       pulls = first_pulls gathered.order.value gathered.has_order ++ pulls_of_fans gathered.fans;
       floor = option_or gathered.own gathered.floor;
       alone = gathered.alone;
+      slice = gathered.slice;
     } };
 }
 
@@ -86,7 +89,7 @@ impl Gathered {
         ensures order { IfOk result (λ gathered. gathered.order ≡ order.now) }
         ensures pulls { IfOk result (λ gathered. gathered.pulls
             ≡ first_pulls order.now (gives_order (pieces_of parts.now))) }
-        ensures floor { IfOk result (FloorFits (lengths order.now)) }
+        ensures floor { IfOk result (GatheredFits order.now) }
     {
         let has_order = give_order(parts);
         let floor = if has_order || are_atoms(parts) {
@@ -101,6 +104,7 @@ impl Gathered {
             floor,
             own: None,
             alone: false,
+            slice: None,
         })
     }
 
@@ -116,10 +120,11 @@ impl Gathered {
         ensures order { self.new.order ≡ self.old.order }
         ensures floor { self.new.floor ≡ self.old.floor }
         ensures alone { self.new.alone ≡ false }
+        ensures slice { self.new.slice ≡ None }
     {
         // By its clause the lengths are those of a shape.
         let _procs = shape.procs();
-        self.alone = false;
+        self.asks_with_others();
         for pull in added {
             self.fans.push(Fan::of_pull(alloc, pull)?)?;
         }
@@ -132,8 +137,10 @@ impl Gathered {
     pub fn add_slice(&mut self, alloc: Global, slice: &Slice) -> Result<(), NoMemory>
         ensures order { self.new.order ≡ self.old.order }
         ensures pulls { OnOk result (self.new.pulls ≡ self.old.pulls ++ pulls_of_slice slice.now) }
-        ensures floor { (o : Clocks) → FitsOrder o slice.now → FloorFits (lengths o) self.old
-            → OnOk result (FloorFits (lengths o) self.new) }
+        ensures alone { OnOk result
+            (self.new.alone ≡ true → self.new.pulls ≡ pulls_of_slice slice.now) }
+        ensures floor { (o : Clocks) → FitsOrder o slice.now → GatheredFits o self.old
+            → OnOk result (GatheredFits o self.new) }
         ensures rows { HasAllRows slice.now }
     {
         // By its clause the slice has all its rows.
@@ -151,18 +158,45 @@ impl Gathered {
         Ok(())
     }
 
+    /// Keeps the slice that was added last, where it asks alone.
+    pub fn keep(&mut self, slice: Slice)
+        ensures order { self.new.order ≡ self.old.order }
+        ensures pulls { self.new.pulls ≡ self.old.pulls }
+        ensures floor { self.new.floor ≡ self.old.floor }
+        ensures same { self.new.alone ≡ self.old.alone }
+        ensures alone { self.old.alone ≡ true → self.new.slice ≡ Some slice }
+        ensures others { self.old.alone ≡ false → self.new.slice ≡ self.old.slice }
+    {
+        if self.alone {
+            self.slice = Some(slice);
+        }
+    }
+
     /// Puts fans behind the others.
     pub fn add_fans(&mut self, added: List<Fan>) -> Result<(), NoMemory>
         ensures pulls { OnOk result (self.new.pulls ≡ self.old.pulls ++ pulls_of_fans added) }
         ensures order { self.new.order ≡ self.old.order }
         ensures floor { self.new.floor ≡ self.old.floor }
         ensures alone { self.new.alone ≡ false }
+        ensures slice { self.new.slice ≡ None }
     {
-        self.alone = false;
+        self.asks_with_others();
         for fan in added.into_vec() {
             self.fans.push(fan)?;
         }
         Ok(())
+    }
+
+    /// No slice asks alone from now on.
+    fn asks_with_others(&mut self)
+        ensures pulls { self.new.pulls ≡ self.old.pulls }
+        ensures order { self.new.order ≡ self.old.order }
+        ensures floor { self.new.floor ≡ self.old.floor }
+        ensures alone { self.new.alone ≡ false }
+        ensures slice { self.new.slice ≡ None }
+    {
+        self.alone = false;
+        self.slice = None;
     }
 
     /// Whether no part has asked yet.
@@ -180,11 +214,12 @@ impl Gathered {
         self.own.is_some() || self.floor.is_some()
     }
 
-    /// What is asked, and the rows to begin from.
-    pub fn into_asked(self) -> (Asked, FirstRows)
+    /// What is asked, the rows to begin from, and the slice that asks alone.
+    pub fn into_asked(self) -> (Asked, FirstRows, Option<Slice>)
         ensures pulls { self.pulls ≡ asked_pulls self.order result.0 }
         ensures rows { option_or result.1.own result.1.floor ≡ self.floor }
         ensures alone { result.1.alone ≡ self.alone }
+        ensures slice { result.2 ≡ self.slice }
     {
         let Gathered {
             order,
@@ -193,8 +228,10 @@ impl Gathered {
             floor,
             own,
             alone,
+            slice,
         } = self;
         drop(order);
-        (Asked { has_order, fans }, FirstRows { own, floor, alone })
+        let first = FirstRows { own, floor, alone };
+        (Asked { has_order, fans }, first, slice)
     }
 }

@@ -1,11 +1,11 @@
 //! What the operators over the slice of their operand ask of cuts, and where they are true.
 ghost use Rattle.std.specs.Prelude.{◌≡◌, ◌<◌, ◌↔◌, true, IfOk, OnOk, IsTrue, length};
-ghost use Rattle.run_model.specs.Cut.{initial, lengths};
+ghost use Rattle.run_model.specs.Cut.{initial};
 ghost use Rattle.run_model.specs.Slice.{Cuts};
 ghost use Rattle.rctl_grammar.specs.declared.tree.Operator.TheVariants.{Ex};
 ghost use Rattle.slice_graph.specs.Views.{slice_of};
 ghost use Rattle.slice_graph.specs.Fitting.{FitsOrder};
-ghost use Rattle.conjunctions.specs.inside.Beginning.{FloorFits};
+ghost use Rattle.conjunctions.specs.inside.Beginning.{GatheredFits};
 ghost use Rattle.part_pulls.specs.Operating.{Operated, FitsProcesses, operator_gives_order};
 ghost use Rattle.conjunctions.specs.inside.Gathering.{AddsOperator};
 
@@ -46,10 +46,10 @@ fn add_operated(
 ) -> Result<bool, NoMemory>
     requires fits { FitsOrder order.now operand.now }
     requires operator { operator_gives_order operator ≡ true }
-    requires floor { FloorFits (lengths order.now) gathered.old }
+    requires floor { GatheredFits order.now gathered.old }
     ensures pulls { OnOk result (AddsOperator order.now operator operand.now gathered.old.pulls
         gathered.new.pulls) }
-    ensures floor { OnOk result (FloorFits (lengths order.now) gathered.new) }
+    ensures floor { OnOk result (GatheredFits order.now gathered.new) }
     ensures order { gathered.new.order ≡ gathered.old.order }
     ensures truth { IfOk result (λ truth. IsTrue truth
         ↔ Operated operator order.now (Cuts order.now (slice_of operand.now))
@@ -59,7 +59,9 @@ fn add_operated(
     let slice = operate(alloc, order, operator, operand)?;
     give_back(room);
     gathered.add_slice(alloc, &slice)?;
-    has_initial(alloc, &slice)
+    let truth = has_initial(alloc, &slice)?;
+    gathered.keep(slice);
+    Ok(truth)
 }
 
 /// Gathers what EX of the process over the operand asks, and tells its truth at the initial cut.
@@ -72,10 +74,10 @@ fn add_next(
 ) -> Result<bool, NoMemory>
     requires fits { FitsOrder order.now operand.now }
     requires process { process < length order.now }
-    requires floor { FloorFits (lengths order.now) gathered.old }
+    requires floor { GatheredFits order.now gathered.old }
     ensures pulls { OnOk result (AddsOperator order.now (Ex process) operand.now gathered.old.pulls
         gathered.new.pulls) }
-    ensures floor { OnOk result (FloorFits (lengths order.now) gathered.new) }
+    ensures floor { OnOk result (GatheredFits order.now gathered.new) }
     ensures order { gathered.new.order ≡ gathered.old.order }
     ensures truth { IfOk result (λ truth. IsTrue truth
         ↔ Operated (Ex process) order.now (Cuts order.now (slice_of operand.now))
@@ -95,10 +97,10 @@ pub fn add_operator(
 ) -> Result<bool, NoMemory>
     requires fits { FitsOrder order.now operand.now }
     requires operator { FitsProcesses (length order.now) operator }
-    requires floor { FloorFits (lengths order.now) gathered.old }
+    requires floor { GatheredFits order.now gathered.old }
     ensures pulls { OnOk result (AddsOperator order.now operator operand.now gathered.old.pulls
         gathered.new.pulls) }
-    ensures floor { OnOk result (FloorFits (lengths order.now) gathered.new) }
+    ensures floor { OnOk result (GatheredFits order.now gathered.new) }
     ensures order { gathered.new.order ≡ gathered.old.order }
     ensures truth { IfOk result (λ truth. IsTrue truth
         ↔ Operated operator order.now (Cuts order.now (slice_of operand.now))

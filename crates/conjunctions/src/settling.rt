@@ -2,14 +2,16 @@
 ghost use Rattle.std.specs.Prelude.{◌≡◌, ◌^◌, ◌<◌, ◌≤◌, true, length, All, IfOk, IfSome};
 ghost use Rattle.std.specs.Option.{option_or};
 ghost use Rattle.run_model.specs.Cut.{lengths};
-ghost use Rattle.pull_system.specs.System.{IsPull};
+ghost use Rattle.pull_system.specs.System.{IsPull, IsSystem, SystemView};
+ghost use Rattle.pull_system.specs.Rows.{AreLeastRows};
 ghost use Rattle.slice_graph.specs.Fitting.{HasOrder};
 ghost use Rattle.conjunctions.specs.Counting.{first_of};
 ghost use Rattle.bound_table.specs.Firm.{AreOwnRows};
 ghost use Rattle.slice_workers.specs.Spent.{spent_of};
-ghost use Rattle.conjunctions.specs.inside.Beginning.{BeginsTable, BeginsWithOrder, FloorFits};
+ghost use Rattle.conjunctions.specs.inside.Beginning.{AsksAlone, BeginsTable, BeginsWithOrder};
+ghost use Rattle.conjunctions.specs.inside.Beginning.{GatheredFits};
 ghost use Rattle.conjunctions.specs.inside.Settling.{CanBegin, CanBeginTable, SettlesOne};
-ghost use Rattle.conjunctions.specs.inside.Settling.{conjoined_of};
+ghost use Rattle.conjunctions.specs.inside.Settling.{IsSliceOfSystem, conjoined_of};
 ghost use Rattle.conjunctions.specs.inside.Settling.{SharesOrder};
 
 use crate::floors::{Beginning, beginning_of};
@@ -30,7 +32,7 @@ use std::thread::Threads;
 
 /// Settles the rows of the conjunction that has what was gathered, from its rows of before where
 /// they are kept, and gives its slice. Rows that are firm where it begins are not settled again:
-/// all of them where one slice asks alone.
+/// all of them where one slice asks alone, and then that is the conjunction's.
 pub fn settle_gathered<R: Threads + Sync, G: Gate, L: Ledger>(
     means: &Means<R, G>,
     order: &Order,
@@ -46,13 +48,13 @@ pub fn settle_gathered<R: Threads + Sync, G: Gate, L: Ledger>(
     requires first { keeps ≡ true → BeginsWithOrder order.now gathered.pulls }
     requires before { CanBegin (record { lens = lengths order.now; pulls = gathered.pulls }) keeps
         (first_of round.old.before) }
-    requires floor { FloorFits (lengths order.now) gathered }
+    requires floor { GatheredFits order.now gathered }
     requires shared { SharesOrder order.now gathered round.old }
     ensures { IfOk result (SettlesOne (conjoined_of order.now gathered.pulls keeps)
         means.now.workers round.old round.new (spent_of steps.old steps.new)) }
 {
     let alloc = means.alloc;
-    let (asked, first) = gathered.into_asked();
+    let (asked, first, own) = gathered.into_asked();
     let has_order = asked.has_order;
     let system = system_of_asked(alloc, order, asked, round)?;
     let before = round.next();
@@ -68,9 +70,29 @@ pub fn settle_gathered<R: Threads + Sync, G: Gate, L: Ledger>(
     )?;
     seat.bounds();
     give_back(alloc, order, has_order, table.close(seat), round)?;
-    let slice = Slice::from_rows(alloc, order, settled.rows())?;
+    let slice = slice_of_rows(alloc, order, own, settled.rows())?;
     round.keep(settled)?;
     Ok(slice)
+}
+
+/// The slice of a conjunction that has these rows: the slice that asked alone, and where there is
+/// none the rows'.
+fn slice_of_rows(
+    alloc: Global,
+    order: &Order,
+    own: Option<Slice>,
+    rows: &Rows,
+) -> Result<Slice, NoMemory>
+    requires { rows.now.lens ≡ lengths order.now }
+    ensures { (system : SystemView) → IsSystem system → system.lens ≡ lengths order.now
+        → HasOrder order.now system → AreLeastRows system rows.now.words
+        → IfSome own (AsksAlone order.now system.pulls)
+        → IfOk result (IsSliceOfSystem order.now system) }
+{
+    match own {
+        Some(slice) => Ok(slice),
+        None => Slice::from_rows(alloc, order, rows),
+    }
 }
 
 /// The table of the system from which a conjunction begins: that of the rows of a slice that asks

@@ -1,14 +1,16 @@
 -- Where the rows of a conjunction begin, and which of them are final there.
 use Rattle.std.specs.Prelude.{◌≡◌, ℕ, ◌+◌, ◌*◌, ◌<◌, ◌≤◌, ◌++◌, Bool, true, false, List, length}
 use Rattle.std.specs.Prelude.{sum, take, slice_index, Option, Some, None, IfSome}
-use Rattle.run_model.specs.Cut.{Clocks}
+use Rattle.run_model.specs.Cut.{Clocks, lengths}
 use Rattle.pota_base.specs.Limits.{most_processes}
 use Rattle.pull_system.specs.declared.pull.Pull.{Pull}
 use Rattle.pull_system.specs.System.{SystemView, IsSystem}
 use Rattle.pull_system.specs.Vector.{IsAtMost}
 use Rattle.pull_system.specs.Rows.{RowsView, IsLeast, row_at, starts}
 use Rattle.pull_system.specs.Growth.{grown_words}
-use Rattle.slice_graph.specs.PullLists.{pulls_of_order}
+use Rattle.slice_graph.specs.Views.{SliceView, HasAllRows}
+use Rattle.slice_graph.specs.Fitting.{FitsOrder}
+use Rattle.slice_graph.specs.PullLists.{pulls_of_order, pulls_of_slice}
 use Rattle.slice_graph.specs.Starting.{AreWithinClosed}
 use Rattle.raise_machine.specs.Bounds.{AreBounds}
 use Rattle.bound_table.specs.Firm.{AreOwnRows, FirmView}
@@ -19,12 +21,14 @@ use Rattle.conjunctions.specs.Counting.{steps_for}
 use Rattle.conjunctions.specs.Settling.{MayBeFirm}
 
 -- what the parts so far ask of cuts, behind the order's pulls where these come first, the clocks of
--- that order, where there are some, rows to begin from, and whether one operator's slice alone asks
+-- that order, where there are some, rows to begin from, whether one operator's slice alone asks, and
+-- that slice
 pub record GatheredView : Type 0 where
   pub order : Clocks
   pub pulls : List Pull
   pub floor : Option RowsView
   pub alone : Bool
+  pub slice : Option SliceView
 
 -- rows of these lengths, from which a table of the pulls may begin
 pub record MayBeginFrom (lens : List ℕ) (pulls : List Pull) (rows : RowsView) : Type 0 where
@@ -38,10 +42,22 @@ pub record FloorFits (lens : List ℕ) (gathered : GatheredView) : Type 0 where
   pub own : gathered.alone ≡ true → IfSome gathered.floor
       (λ rows. AreOwnRows (record { lens = lens; pulls = gathered.pulls }) rows.words)
 
+-- the slice is of the order, and its pulls are all that are asked
+pub record AsksAlone (o : Clocks) (pulls : List Pull) (slice : SliceView) : Type 0 where
+  pub fits : FitsOrder o slice
+  pub rows : HasAllRows slice
+  pub own : pulls ≡ pulls_of_slice slice
+
+-- the rows to begin from fit, and a slice that is kept asks alone
+pub record GatheredFits (o : Clocks) (gathered : GatheredView) : Type 0 where
+  pub floor : FloorFits (lengths o) gathered
+  pub slice : IfSome gathered.slice (AsksAlone o gathered.pulls)
+
 -- the rows to begin from are as before, and no slice asks alone
 pub record KeepsFloor (old new : GatheredView) : Type 0 where
   pub floor_is : new.floor ≡ old.floor
   pub others : new.alone ≡ false
+  pub no_slice : new.slice ≡ None
 
 -- the first pulls are those of the order
 pub record BeginsWithOrder (o : Clocks) (pulls : List Pull) : Type 0 where

@@ -53,6 +53,11 @@ pub record KeepsRows (old new : RoundView) : Type 0 where
   pub before_is : new.before ≡ old.before
   pub settled_is : new.settled ≡ old.settled
 
+-- the slice is of the order, and has the consistent cuts that are closed under the system
+pub record IsSliceOfSystem (o : Clocks) (system : SystemView) (slice : SliceView) : Type 0 where
+  pub fits : FitsOrder o slice
+  pub cuts : (c : Cut) → IsConsistent o c → Cuts o (slice_of slice) c ↔ IsClosed system c
+
 -- one conjunction with these pulls was settled: its rows are the least ones of the system, they
 -- stand behind the others, those of atoms were settled by steps, the slice has the consistent cuts
 -- that are closed under the pulls, and the system that the round has is that of the order, or of an

@@ -1,6 +1,6 @@
 use Rattle.std.proofs.Common.{◌≡◌, ℕ, ◌+◌, ◌≤◌, ◌∷◌, [], length, take, flat_map, List, Some, None, Bool, true, false, refl, sym, ◌∙◌, ap, subst, arith}
 use Rattle.std.specs.Prelude.{IsTrue, ◌↔◌}
-use Rattle.run_model.specs.Cut.{Clocks, initial, lengths}
+use Rattle.run_model.specs.Cut.{Clocks, initial}
 use Rattle.run_model.specs.Slice.{Cuts}
 use Rattle.slice_graph.specs.Views.{slice_of}
 use Rattle.slice_graph.specs.Fitting.{FitsOrder}
@@ -17,8 +17,8 @@ use Rattle.rctl_parts.specs.MadeFor.{EachFits, parts_count}
 use Rattle.part_pulls.specs.declared.observed.Observed.{Observed}
 use Rattle.conjunctions.specs.Rounds.{RoundView, HasOrderSystem}
 use Rattle.conjunctions.specs.Settling.{AreFloors, Settles}
-use Rattle.conjunctions.specs.inside.Beginning.{FloorFits}
-use Rattle.conjunctions.proofs.Beginning.{floor_more}
+use Rattle.conjunctions.specs.inside.Beginning.{GatheredFits}
+use Rattle.conjunctions.proofs.Beginning.{gathered_more}
 use Rattle.conjunctions.proofs.InTurn.{settles_on}
 use Rattle.conjunctions.proofs.Settled.{slice_settled, rows_settled}
 use Rattle.part_pulls.proofs.Taken.{splits_at, taken_more, length-taken, fits_at, count_at, taken_all}
@@ -29,7 +29,7 @@ use Rattle.part_pulls.specs.Systems.{is_atom}
 use Rattle.conjunctions.specs.Numbering.{within, conjunctions_in}
 use Rattle.conjunctions.specs.inside.Numbering.{gives_order}
 use Rattle.conjunctions.specs.Answering.{IsSliceOf, IsPartAnswer, place}
-use Rattle.part_pulls.specs.Observing.{clocks_seen, lens_seen, scope_seen}
+use Rattle.part_pulls.specs.Observing.{clocks_seen, scope_seen}
 use Rattle.conjunctions.specs.inside.Gathering.{AddsPulls, first_pulls, AddsOperator}
 use Rattle.part_pulls.specs.Counters.{AllRise, counters_of_parts}
 use Rattle.part_pulls.specs.Operating.{Operated, FitsProcesses}
@@ -81,7 +81,7 @@ add_part-add_operator-requires-clause-operator g t c =
 pub add_part-add_operator-requires-clause-floor : goal.add_part-add_operator-requires-clause-floor
 add_part-add_operator-requires-clause-floor g t c =
     let order = order_is c.args.seen.now c.order-order.result.now c.order-order.ensures.trace c.order-order.ensures.order in
-    subst (λ (o : Clocks). FloorFits (lengths o) c.args.gathered.now) (sym order) c.requires.floor
+    subst (λ (o : Clocks). GatheredFits o c.args.gathered.now) (sym order) c.requires.floor
 
 pub add_part-add_atom-requires-clause-atom : goal.add_part-add_atom-requires-clause-atom
 add_part-add_atom-requires-clause-atom g t c = grind (arith, rules_of.pieces)
@@ -112,7 +112,7 @@ add_part-returns-in_ok-truth-in-Temporal g t c =
           (temporal_answer seen trace o ps operand c.args.disjunct c.args.number answer fits operand_is refl refl refl refl truth);
       pulls = subst (λ (p : Piece). AddsPulls seen c.args.gathered.now.pulls c.add_operator.new.gathered.pulls (p ∷ [])) (sym is)
           (temporal_adds seen trace o ps operand c.args.gathered.now.pulls c.add_operator.new.gathered.pulls fits operand_is adds);
-      floor = subst (λ (k : Clocks). FloorFits (lengths k) c.add_operator.new.gathered) order told.floor;
+      floor = subst (λ (k : Clocks). GatheredFits k c.add_operator.new.gathered) order told.floor;
       order = told.order;
       settles = temporal_settles seen c.args.means.now.workers c.args.round.now c.settle_conjunction.new.round c.args.steps.now c.settle_conjunction.new.steps (piece_of c.args.part.now) o ps is
           (rw c.as_slice.ensures at c.in_ok-operand-in-Temporal.ensures.settles);
@@ -128,7 +128,7 @@ add_part-returns-in_ok-truth-in-Local g t c =
       answer = atom_answer seen p c.args.disjunct c.args.number answer is refl refl refl refl c.in_ok-truth-in-Local.ensures.truth;
       pulls = c.in_ok-truth-in-Local.ensures.pulls;
       floor = let adds = c.in_ok-truth-in-Local.ensures.pulls in
-          floor_more (lens_seen seen) c.args.gathered.now c.add_atom.new.gathered adds.added adds.is c.in_ok-truth-in-Local.ensures.floor.floor_is (λ is. let e : false ≡ true = sym c.in_ok-truth-in-Local.ensures.floor.others ∙ is in absurd (cc)) c.requires.floor;
+          gathered_more (clocks_seen seen) c.args.gathered.now c.add_atom.new.gathered adds.added adds.is c.in_ok-truth-in-Local.ensures.floor.floor_is (λ is. let e : false ≡ true = sym c.in_ok-truth-in-Local.ensures.floor.others ∙ is in absurd (cc)) c.in_ok-truth-in-Local.ensures.floor.no_slice c.requires.floor;
       order = c.in_ok-truth-in-Local.ensures.order;
       settles = atom_settles seen c.args.means.now.workers c.args.round.now c.args.steps.now p is c.requires.part.begins.order;
     }
@@ -140,7 +140,7 @@ settle_conjunction-parts-init g t c =
     let gives : Bool = gives_order (pieces_of c.args.parts.now) in
     added_none seen c.args.means.now.workers c.args.disjunct c.args.round.now c.args.steps.now c.args.answers.now (first_pulls (clocks_seen seen) gives) c.in_ok-gathered.gathered
     (c.in_ok-gathered.ensures.pulls ∙ ap (λ (o : Clocks). first_pulls o gives) order_is)
-    (c.in_ok-gathered.ensures.order ∙ order_is) (subst (λ (o : Clocks). FloorFits (lengths o) c.in_ok-gathered.gathered) order_is c.in_ok-gathered.ensures.floor) c.requires.begins.order
+    (c.in_ok-gathered.ensures.order ∙ order_is) (subst (λ (o : Clocks). GatheredFits o c.in_ok-gathered.gathered) order_is c.in_ok-gathered.ensures.floor) c.requires.begins.order
 
 pub settle_conjunction-overflow_cast-number : goal.settle_conjunction-overflow_cast-number
 settle_conjunction-overflow_cast-number g t c = omega (arith, few_parts c.args.parts.now c.requires.count, c.parts-test.true)
@@ -211,7 +211,7 @@ settle_conjunction-settle_gathered-requires-clause-first g t c = λ κs lives.
 
 pub settle_conjunction-settle_gathered-requires-clause-floor : goal.settle_conjunction-settle_gathered-requires-clause-floor
 settle_conjunction-settle_gathered-requires-clause-floor g t c = λ κs lives.
-    subst (λ (o : Clocks). FloorFits (lengths o) c.parts.gathered) (sym (c.order-order.ensures.order ∙ sym c.order-order.ensures.trace.clocks)) c.parts.invariant.floor
+    subst (λ (o : Clocks). GatheredFits o c.parts.gathered) (sym (c.order-order.ensures.order ∙ sym c.order-order.ensures.trace.clocks)) c.parts.invariant.floor
 
 pub settle_conjunction-settle_gathered-requires-clause-before : goal.settle_conjunction-settle_gathered-requires-clause-before
 settle_conjunction-settle_gathered-requires-clause-before g t c = λ κs lives.

@@ -1,10 +1,9 @@
 use Rattle.std.proofs.Common.{◌≡◌, true, false, length, sym, ◌∙◌, ap, arith}
 use Rattle.std.proofs.lemmas.Result.{IfOk-weaker}
-use Rattle.run_model.specs.Cut.{lengths}
 use Rattle.run_model.proofs.Counts.{length-lengths}
 use Rattle.slice_graph.specs.Views.{slice_of}
 use Rattle.pull_fans.specs.Fans.{pulls_of_fans}
-use Rattle.conjunctions.proofs.Beginning.{floor_more}
+use Rattle.conjunctions.proofs.Beginning.{gathered_more}
 use Rattle.part_pulls.proofs.Firsts.{first_next}
 use Rattle.conjunctions.proofs.Asking.{next_adds}
 use Rattle.conjunctions.proofs.operator.add_next.Goals as goal
@@ -30,7 +29,7 @@ returns-clause-floor c =
     let told = c.in_ok-add_fans.ensures in
     IfOk-weaker c.has_first.result _ _
     (λ truth first.
-    floor_more (lengths o) c.args.gathered.now c.add_fans.new.self (pulls_of_fans c.in_ok-ex_fans.field-0) told.pulls told.floor (λ is. let e : false ≡ true = sym told.alone ∙ is in absurd (cc)) c.requires.floor)
+    gathered_more o c.args.gathered.now c.add_fans.new.self (pulls_of_fans c.in_ok-ex_fans.field-0) told.pulls told.floor (λ is. let e : false ≡ true = sym told.alone ∙ is in absurd (cc)) told.slice c.requires.floor)
     (c.has_first.ensures o c.requires.fits)
 
 pub returns-clause-truth : goal.returns-clause-truth

@@ -11,6 +11,7 @@ use Rattle.slice_workers.specs.Spent.{spent_of}
 use Rattle.slice_workers.specs.Views.{SettledView}
 use Rattle.raise_machine.specs.Bounds.{AreBounds}
 use Rattle.bound_table.specs.Views.{TableView, SeatView}
+use Rattle.slice_graph.specs.Views.{SliceView}
 use Rattle.slice_graph.specs.Growing.{IsEarlierSystem}
 use Rattle.slice_workers.specs.Calls.{TakesBehind}
 use Rattle.conjunctions.specs.Counting.{first_of, steps_for}
@@ -18,7 +19,7 @@ use Rattle.conjunctions.specs.declared.gathered.Asked.{Asked}
 use Rattle.conjunctions.specs.inside.Asked.{asked_pulls}
 use Rattle.conjunctions.specs.inside.Gathering.{first_pulls}
 use Rattle.conjunctions.specs.inside.Settling.{CanBegin, CanBeginTable}
-use Rattle.conjunctions.specs.inside.Beginning.{GatheredView, FloorFits, BeginsTable, BeginsWithOrder}
+use Rattle.conjunctions.specs.inside.Beginning.{GatheredView, FloorFits, AsksAlone, BeginsTable, BeginsWithOrder}
 use Rattle.bound_table.specs.Firm.{AreOwnRows}
 use Rattle.conjunctions.specs.Settling.{MayBeFirm}
 use Rattle.conjunctions.proofs.settling.settle_gathered.Goals as goal
@@ -58,7 +59,7 @@ table_of-requires-clause-begins g c =
     let gathered : GatheredView = c.args.gathered in
     let made = c.in_ok-system.ensures.system ∙ system_by _ _ _ _ refl (gathered_is c.args.order.now c.args.gathered c.into_asked-asked.result.0 c.requires.shared.same c.into_asked-asked.ensures.pulls) in
     can_begin c.args.order.now gathered c.in_ok-system.system c.args.keeps (first_of c.args.round.now.before) c.next-before.result _ made
-    (c.next-before.ensures.next ∙ ap first_of c.in_ok-system.ensures.rows.before_is) c.into_asked-asked.ensures.rows c.requires.before c.requires.floor c.requires.first
+    (c.next-before.ensures.next ∙ ap first_of c.in_ok-system.ensures.rows.before_is) c.into_asked-asked.ensures.rows c.requires.before c.requires.floor.floor c.requires.first
 
 pub table_of-requires-clause-own : goal.table_of-requires-clause-own
 table_of-requires-clause-own g c = λ is.
@@ -66,7 +67,7 @@ table_of-requires-clause-own g c = λ is.
     let system : SystemView = record { lens = lengths c.args.order.now; pulls = gathered.pulls } in
     let made : c.in_ok-system.system ≡ system = c.in_ok-system.ensures.system ∙ system_by _ _ _ _ refl (gathered_is c.args.order.now c.args.gathered c.into_asked-asked.result.0 c.requires.shared.same c.into_asked-asked.ensures.pulls) in
     subst (λ (s : SystemView). IfSome (option_or c.into_asked-asked.result.1.own c.into_asked-asked.result.1.floor) (λ rows. AreOwnRows s rows.words)) (sym made)
-    (subst (λ (floor : Option RowsView). IfSome floor (λ rows. AreOwnRows system rows.words)) (sym c.into_asked-asked.ensures.rows) (c.requires.floor.own (sym c.into_asked-asked.ensures.alone ∙ is)))
+    (subst (λ (floor : Option RowsView). IfSome floor (λ rows. AreOwnRows system rows.words)) (sym c.into_asked-asked.ensures.rows) (c.requires.floor.floor.own (sym c.into_asked-asked.ensures.alone ∙ is)))
 
 pub settle_all-requires-clause-fits : goal.settle_all-requires-clause-fits
 settle_all-requires-clause-fits g c = λ κs lives. c.in_ok-table.ensures.seat_is
@@ -98,6 +99,9 @@ returns g c =
     let system_is : c.in_ok-table.table.system ≡ system = c.in_ok-table.ensures.system_is ∙ made in
     let is_system : IsSystem system = subst IsSystem made c.in_ok-table.ensures.is in
     let least : AreLeastRows system rows.words = subst (λ (s : SystemView). AreLeastRows s rows.words) system_is c.in_ok-settled.ensures.settled.least in
+    let asks : IfSome c.into_asked-asked.result.2 (AsksAlone c.args.order.now system.pulls) =
+    subst (λ (own : Option SliceView). IfSome own (AsksAlone c.args.order.now gathered.pulls)) (sym c.into_asked-asked.ensures.slice) c.requires.floor.slice in
+    let is_slice = c.in_ok-slice.ensures system is_system refl c.requires.order (subst (λ (r : RowsView). AreLeastRows system r.words) (sym c.rows.ensures) least) asks in
     let next_is : c.next-before.result ≡ before = c.next-before.ensures.next ∙ ap first_of c.in_ok-system.ensures.rows.before_is in
     record {
       before = c.in_ok-keep.ensures.before ∙ c.in_ok-give_back.ensures.rows.before_is ∙ c.next-before.ensures.before ∙ ap (drop 1) c.in_ok-system.ensures.rows.before_is;
@@ -112,8 +116,8 @@ returns g c =
       looks = λ one. took c.in_ok-system.system c.in_ok-table.table system c.args.keeps c.next-before.result before c.in_ok-table.seat c.settle_all.new.seat rows c.args.steps.now c.table_of.new.steps c.settle_all.new.steps
           made next_is c.in_ok-table.ensures c.in_ok-settled.ensures.settled.floor c.in_ok-settled.ensures.risen.rises
           (subst (λ (s : SystemView). AreBounds s c.settle_all.new.seat.floor) (ap (λ (t : TableView). t.system) (c.in_ok-settled.ensures.risen.table ∙ c.in_ok-table.ensures.seat_is)) c.bounds.ensures) (c.in_ok-settled.ensures.behind one);
-      fits = c.in_ok-slice.ensures.fits system is_system refl c.requires.order (subst (λ (r : RowsView). AreLeastRows system r.words) (sym c.rows.ensures) least);
-      cuts = c.in_ok-slice.ensures.cuts system is_system refl c.requires.order (subst (λ (r : RowsView). AreLeastRows system r.words) (sym c.rows.ensures) least);
+      fits = is_slice.fits;
+      cuts = is_slice.cuts;
     }
   where
     took : (made : SystemView) (table : TableView) (system : SystemView) (keeps : Bool) (next before : Option RowsView) (seat new : SeatView) (rows : RowsView) (s mid t : ℕ) → made ≡ system → next ≡ before

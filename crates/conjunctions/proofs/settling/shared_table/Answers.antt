@@ -1,4 +1,4 @@
-use Rattle.std.proofs.Common.{◌≡◌, ℕ, ◌≤◌, Bool, true, false, List, length, sum, take, Option, sym, ◌∙◌, ap, subst, arith}
+use Rattle.std.proofs.Common.{◌≡◌, ℕ, ◌≤◌, Bool, true, false, List, length, sum, take, Option, None, sym, ◌∙◌, ap, subst, arith}
 use Rattle.std.proofs.lemmas.Option.{IfSome_then}
 use Rattle.run_model.specs.Cut.{lengths}
 use Rattle.pull_system.specs.System.{SystemView}
@@ -42,7 +42,7 @@ behind-requires-clause-bounds g c =
     let system : SystemView = c.args.system in
     let words : List ℕ = c.in_ok-begins.begins.floor.words in
     let finals : List ℕ = c.in_ok-begins.begins.finals in
-    let gathered : GatheredView = record { order = c.args.order.now; pulls = system.pulls; floor = c.args.floor; alone = false } in
+    let gathered : GatheredView = record { order = c.args.order.now; pulls = system.pulls; floor = c.args.floor; alone = false; slice = None } in
     let fits : FloorFits system.lens gathered = record { begins = c.requires.begins.gathered; own = λ is. absurd (cc) } in
     let same = sym c.requires.begins.lens in
     floor_bounds system.lens gathered c.args.keeps c.args.before words finals c.requires.begins.kept fits
@@ -55,7 +55,7 @@ behind-requires-clause-firm g c =
     let words : List ℕ = c.in_ok-begins.begins.floor.words in
     let finals : List ℕ = c.in_ok-begins.begins.finals in
     let bottom : Bool = c.in_ok-begins.begins.bottom in
-    let gathered : GatheredView = record { order = c.args.order.now; pulls = system.pulls; floor = c.args.floor; alone = false } in
+    let gathered : GatheredView = record { order = c.args.order.now; pulls = system.pulls; floor = c.args.floor; alone = false; slice = None } in
     let fits : FloorFits system.lens gathered = record { begins = c.requires.begins.gathered; own = λ is. absurd (cc) } in
     let same = sym c.requires.begins.lens in
     let firm_is : c.new-firm.result ≡ record { firsts = take (length system.lens) finals; bottom = bottom } =
@@ -71,7 +71,7 @@ returns g c =
     let words : List ℕ = c.in_ok-begins.begins.floor.words in
     let finals : List ℕ = c.in_ok-begins.begins.finals in
     let bottom : Bool = c.in_ok-begins.begins.bottom in
-    let gathered : GatheredView = record { order = c.args.order.now; pulls = system.pulls; floor = c.args.floor; alone = false } in
+    let gathered : GatheredView = record { order = c.args.order.now; pulls = system.pulls; floor = c.args.floor; alone = false; slice = None } in
     let fits : FloorFits system.lens gathered = record { begins = c.requires.begins.gathered; own = λ is. absurd (cc) } in
     let same = sym c.requires.begins.lens in
     let atoms = atoms_at system.lens (lengths c.args.order.now) system c.args.keeps c.args.before words finals same c.in_ok-begins.ensures.atoms in

@@ -1,4 +1,4 @@
-use Rattle.std.proofs.Common.{◌≡◌, ◌++◌, false}
+use Rattle.std.proofs.Common.{◌≡◌, ◌++◌, false, None}
 use Rattle.pull_fans.specs.Fans.{pulls_of_fans}
 use Rattle.conjunctions.proofs.gathered.Gathered.add_fans.Given as goal
 
@@ -10,4 +10,5 @@ invariant-loop-fan l = record {
   floor : l.self-inside.floor ≡ l.initial.self-inside.floor;
   own : l.self-inside.own ≡ l.initial.self-inside.own;
   alone : l.self-inside.alone ≡ false;
+  slice : l.self-inside.slice ≡ None;
 }
