@@ -1,5 +1,5 @@
 -- The least rows of a system are below those of one that it grows into, row by row.
-use Rattle.std.proofs.Common.{◌≡◌, ℕ, zero, suc, ◌+◌, ◌-◌, ◌<◌, ◌≤◌, ◌⊎◌, inl, inr, min, List, [], ◌∷◌, Bool, Option, Some, None, length, sum, get_or, drop, drop-cons, refl, arith, sym, ap, ◌∙◌, subst}
+use Rattle.std.proofs.Common.{◌≡◌, ℕ, zero, suc, ◌+◌, ◌-◌, ◌<◌, ◌≤◌, ◌⊎◌, inl, inr, min, List, [], ◌∷◌, Bool, Option, Some, None, length, sum, get_or, take, refl, arith, sym, ap, ◌∙◌, subst}
 use Rattle.std.specs.Prelude.{nat_le, if◌then◌else◌}
 use Rattle.std.proofs.lemmas.Bool.Decides.{leb_tells}
 use Rattle.std.proofs.lemmas.List.{get_or_past}
@@ -196,43 +196,80 @@ grown_rows_below before after is grows old same least row there =
     let P : List ℕ → Type 0 = IsBelowLeast after (start_of after.lens row) in
     subst P (sym (row_at-first_rows after.lens (grown_row after.lens old) (length-grown_row before after is grows old same least) row there)) (grown_row_below before after is grows old same least row)
 
--- a walk over the processes: what the rest of them says of a row, and how many old events there were
-pub record IsWalk (olds lens : List ℕ) (row at before left : ℕ) : Type 0 where
-  pub same : old_row olds lens row ≡ old_row_from before (drop at olds) (drop at lens) left
-  pub count : before + sum (drop at olds) ≡ sum olds
+-- the bottom's row is the first one still
+pub old_row-bottom : (olds lens : List ℕ) → 1 ≤ length olds → length olds ≡ length lens → old_row olds lens 0 ≡ Some 0
+old_row-bottom [] lens some same = absurd (omega arith)
+old_row-bottom (old ∷ olds) [] some same = absurd (omega arith)
+old_row-bottom (old ∷ olds) (len ∷ lens) some same =
+    elim (old_row_case 0 old olds len lens 0) [
+      | Here _ _ is ↦ is
+      | New new _ ↦ absurd (omega arith)
+      | Later past _ ↦ absurd (omega arith)
+    ]
 
-module _ (olds lens : List ℕ) (row at before left : ℕ) (size : length olds ≡ length lens) (at_there : at < length lens) (walk : IsWalk olds lens row at before left) where
-  opened : old_row olds lens row ≡ old_row_from before (get_or olds at 0 ∷ drop (at + 1) olds) (get_or lens at 0 ∷ drop (at + 1) lens) left
-  opened =
-      walk.same ∙ ap (λ os. old_row_from before os (drop at lens) left) (drop-cons olds at 0 (omega arith) ∙ ap (λ n. get_or olds at 0 ∷ drop n olds) (let e : suc at ≡ at + 1 = omega arith in e))
-      ∙ ap (λ ls. old_row_from before (get_or olds at 0 ∷ drop (at + 1) olds) ls left) (drop-cons lens at 0 at_there ∙ ap (λ n. get_or lens at 0 ∷ drop n lens) (let e : suc at ≡ at + 1 = omega arith in e))
+-- the event at a position of a process, where `before` counts the old events to the left
+module _ (position : ℕ) (first : 1 ≤ position) where
+  past_head : (len process : ℕ) (lens : List ℕ) → sum (take (suc process) (len ∷ lens)) + position ≡ len + (sum (take process lens) + position)
+  past_head len process lens = omega (arith, sum_by-cons (λ (n : ℕ). n) len (take process lens))
 
-  pub walk_room : before + get_or olds at 0 ≤ sum olds
-  walk_room = omega (arith, walk.count, ap sum (drop-cons olds at 0 (omega arith)), sum_by-cons (λ (n : ℕ). n) (get_or olds at 0) (drop (suc at) olds))
-
-  pub walk_here : left ≤ get_or lens at 0 → left ≤ get_or olds at 0 → old_row olds lens row ≡ Some (before + left)
-  walk_here here old =
-      elim (old_row_case before (get_or olds at 0) (drop (at + 1) olds) (get_or lens at 0) (drop (at + 1) lens) left) [
-        | Here _ _ is ↦ opened ∙ is
-        | New new is ↦ absurd (omega arith)
-        | Later past is ↦ absurd (omega arith)
+  row_from-kept : (before : ℕ) (olds lens : List ℕ) (process : ℕ) → length olds ≡ length lens → process < length lens → position ≤ get_or lens process 0 → position ≤ get_or olds process 0
+      → old_row_from before olds lens (sum (take process lens) + position) ≡ Some (before + (sum (take process olds) + position))
+  row_from-kept before [] lens process same there last old_too = absurd (omega arith)
+  row_from-kept before (old ∷ olds) [] process same there last old_too = absurd (omega arith)
+  row_from-kept before (old ∷ olds) (len ∷ lens) zero same there last old_too =
+      elim (old_row_case before old olds len lens (0 + position)) [
+        | Here _ _ is ↦ is
+        | New new _ ↦ absurd (omega arith)
+        | Later past _ ↦ absurd (omega arith)
+      ]
+  row_from-kept before (old ∷ olds) (len ∷ lens) (suc process) same there last old_too =
+      let row : sum (take (suc process) (len ∷ lens)) + position ≡ len + (sum (take process lens) + position) = past_head len process lens in
+      elim (old_row_case before old olds len lens (sum (take (suc process) (len ∷ lens)) + position)) [
+        | Here here _ _ ↦ absurd (omega arith)
+        | New new _ ↦ absurd (omega arith)
+        | Later _ is ↦
+            is
+            ∙ ap (λ (r : ℕ). old_row_from (before + old) olds lens r) (let rest : sum (take (suc process) (len ∷ lens)) + position - len ≡ sum (take process lens) + position = omega arith in rest)
+            ∙ row_from-kept (before + old) olds lens process (omega arith) (omega arith) last old_too
+            ∙ ap (λ (r : ℕ). Some r) (omega (arith, past_head old process olds))
       ]
 
-  pub walk_new : left ≤ get_or lens at 0 → get_or olds at 0 < left → old_row olds lens row ≡ None
-  walk_new here new =
-      elim (old_row_case before (get_or olds at 0) (drop (at + 1) olds) (get_or lens at 0) (drop (at + 1) lens) left) [
-        | Here _ old is ↦ absurd (omega arith)
-        | New new_too is ↦ opened ∙ is
-        | Later past is ↦ absurd (omega arith)
+  row_from-new : (before : ℕ) (olds lens : List ℕ) (process : ℕ) → length olds ≡ length lens → process < length lens → position ≤ get_or lens process 0 → get_or olds process 0 < position
+      → old_row_from before olds lens (sum (take process lens) + position) ≡ None
+  row_from-new before [] lens process same there last new = absurd (omega arith)
+  row_from-new before (old ∷ olds) [] process same there last new = absurd (omega arith)
+  row_from-new before (old ∷ olds) (len ∷ lens) zero same there last new =
+      elim (old_row_case before old olds len lens (0 + position)) [
+        | Here _ here _ ↦ absurd (omega arith)
+        | New _ is ↦ is
+        | Later past _ ↦ absurd (omega arith)
+      ]
+  row_from-new before (old ∷ olds) (len ∷ lens) (suc process) same there last new =
+      let row : sum (take (suc process) (len ∷ lens)) + position ≡ len + (sum (take process lens) + position) = past_head len process lens in
+      elim (old_row_case before old olds len lens (sum (take (suc process) (len ∷ lens)) + position)) [
+        | Here here _ _ ↦ absurd (omega arith)
+        | New here _ ↦ absurd (omega arith)
+        | Later _ is ↦
+            is
+            ∙ ap (λ (r : ℕ). old_row_from (before + old) olds lens r) (let rest : sum (take (suc process) (len ∷ lens)) + position - len ≡ sum (take process lens) + position = omega arith in rest)
+            ∙ row_from-new (before + old) olds lens process (omega arith) (omega arith) last new
       ]
 
-  pub walk_on : get_or lens at 0 < left → IsWalk olds lens row (at + 1) (before + get_or olds at 0) (left - get_or lens at 0)
-  walk_on past =
-      elim (old_row_case before (get_or olds at 0) (drop (at + 1) olds) (get_or lens at 0) (drop (at + 1) lens) left) [
-        | Here here old is ↦ absurd (omega arith)
-        | New new is ↦ absurd (omega arith)
-        | Later _ is ↦ record {
-          same = opened ∙ is;
-          count = omega (arith, walk.count, ap sum (drop-cons olds at 0 (omega arith)), sum_by-cons (λ (n : ℕ). n) (get_or olds at 0) (drop (suc at) olds), ap (λ n. sum (drop n olds)) (let e : suc at ≡ at + 1 = omega arith in e));
-        }
-      ]
+-- the rows of a process's old events, as they were, and of its new ones
+module _ (lens : List ℕ) (old : RowsView) (process : ℕ) (same : length old.lens ≡ length lens) (there : process < length lens) where
+  pub grown_row-kept : (k : ℕ) → k < get_or old.lens process 0 → k < get_or lens process 0
+      → grown_row lens old (sum (take process lens) + 1 + k) ≡ row_at old.lens old.words (sum (take process old.lens) + 1 + k)
+  grown_row-kept k kept last =
+      let row : sum (take process lens) + 1 + k ≡ sum (take process lens) + (k + 1) = omega arith in
+      let was : 0 + (sum (take process old.lens) + (k + 1)) ≡ sum (take process old.lens) + 1 + k = omega arith in
+      ap (grown_row lens old) row
+      ∙ ap (λ o. kept_or_start lens old (sum (take process lens) + (k + 1)) o) (row_from-kept (k + 1) (omega arith) 0 old.lens lens process same there (omega arith) (omega arith))
+      ∙ ap (row_at old.lens old.words) was
+
+  pub grown_row-new : (k : ℕ) → get_or old.lens process 0 ≤ k → k < get_or lens process 0
+      → grown_row lens old (sum (take process lens) + 1 + k) ≡ start_of lens (sum (take process lens) + 1 + k)
+  grown_row-new k new last =
+      let row : sum (take process lens) + 1 + k ≡ sum (take process lens) + (k + 1) = omega arith in
+      ap (grown_row lens old) row
+      ∙ ap (λ o. kept_or_start lens old (sum (take process lens) + (k + 1)) o) (row_from-new (k + 1) (omega arith) 0 old.lens lens process same there (omega arith) (omega arith))
+      ∙ ap (start_of lens) (sym row)

@@ -2,6 +2,7 @@ pub mod Marks
 pub mod PullLists
 pub mod FirstNumbers
 pub mod Growing
+pub mod GrownBlocks
 pub mod Staying
 pub mod Final
 pub mod Starts

@@ -36,6 +36,10 @@ abbrev pub first_rows : (ℕ → List ℕ) → ℕ → List ℕ
 first_rows row_of zero = []
 first_rows row_of (suc row) = first_rows row_of row ++ row_of row
 
+-- as many rows from the first on, one after the other
+abbrev pub row_block : (ℕ → List ℕ) → ℕ → ℕ → List ℕ
+row_block row_of first count = first_rows (λ k. row_of (first + k)) count
+
 -- the starts of all rows
 abbrev pub starts : List ℕ → List ℕ
 starts lens = first_rows (start_of lens) (sum lens + 1)

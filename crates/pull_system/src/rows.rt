@@ -1,10 +1,10 @@
-ghost use Rattle.std.specs.Prelude.{◌≡◌, ◌+◌, ◌*◌, ◌^◌, ◌≤◌, ◌<◌, length, sum, slice_index};
-ghost use Rattle.std.specs.Prelude.{slice_set, max, IfOk, IfSome, OnOk, ◌++◌};
+ghost use Rattle.std.specs.Prelude.{◌≡◌, ◌+◌, ◌-◌, ◌*◌, ◌^◌, ◌≤◌, ◌<◌, length, sum, take};
+ghost use Rattle.std.specs.Prelude.{slice_index, slice_set, max, IfOk, OnOk, ◌++◌};
 ghost use Rattle.pota_base.specs.Shape.{IsShape};
-ghost use Rattle.pull_system.specs.Rows.{start_of, starts, row_at};
-ghost use Rattle.pull_system.specs.Growth.{DidNotFall, grown_row, grown_words, old_row};
+ghost use Rattle.pull_system.specs.Rows.{start_of, starts, row_at, row_block};
+ghost use Rattle.pull_system.specs.Growth.{DidNotFall, grown_words};
 
-use pota_base::{MOST_PROCESSES, NoMemory, Shape};
+use pota_base::{EventId, MOST_PROCESSES, NoMemory, Shape};
 use std::alloc::Global;
 use std::marker::Model;
 
@@ -161,7 +161,7 @@ fn push_start(words: &mut Vec<u16>, lens: &[u32], row: u32) -> Result<(), NoMemo
     Ok(())
 }
 
-/// The words of the rows after the shape has grown.
+/// The words of the rows after the shape has grown. The rows that a process had stand together.
 fn grow_words(alloc: Global, shape: &Shape, old: &Rows) -> Result<Vec<u16>, NoMemory>
     requires { DidNotFall old.now.lens shape.now }
     ensures { IfOk result (λ words. words.items ≡ grown_words shape.now old.now) }
@@ -170,44 +170,56 @@ fn grow_words(alloc: Global, shape: &Shape, old: &Rows) -> Result<Vec<u16>, NoMe
         alloc,
         (shape.events() as usize + 1) * shape.procs() as usize,
     )?;
-    for row in 0..=shape.events() {
-        push_grown(&mut words, shape.lens(), old, row)?;
+    words.extend_from_slice(old.row(0))?;
+    for process in 0..shape.procs() {
+        push_kept(&mut words, old, process)?;
+        push_new(&mut words, shape, process, old.shape().len_of(process))?;
     }
     Ok(words)
 }
 
-/// Appends a row as it was, or the start of a new event's row.
-fn push_grown(words: &mut Vec<u16>, lens: &[u32], old: &Rows, row: u32) -> Result<(), NoMemory>
-    requires shape { IsShape lens.now }
-    requires procs { length old.now.lens ≡ length lens.now }
-    ensures { OnOk result (words.new.items ≡ words.old.items ++ grown_row lens.now old.now row) }
+/// Appends the rows of a process as they were.
+fn push_kept(words: &mut Vec<u16>, old: &Rows, process: u32) -> Result<(), NoMemory>
+    requires { process < length old.now.lens }
+    ensures { OnOk result (words.new.items ≡ words.old.items
+        ++ row_block (row_at old.now.lens old.now.words) (sum (take process old.now.lens) + 1)
+        (slice_index old.now.lens process)) }
 {
-    match old_row(old.shape().lens(), lens, row) {
-        Some(kept) => words.extend_from_slice(old.row(kept))?,
-        None => push_start(words, lens, row)?,
+    let shape = old.shape();
+    let count = shape.len_of(process);
+    if count == 0 {
+        return Ok(());
     }
+    let position = 1;
+    let first = shape.row_of(EventId { process, position });
+    push_block(words, old, first, count)
+}
+
+/// Appends rows as they were, which stand together.
+fn push_block(words: &mut Vec<u16>, old: &Rows, first: u32, count: u32) -> Result<(), NoMemory>
+    requires { first + count ≤ sum old.now.lens + 1 }
+    ensures { OnOk result (words.new.items ≡ words.old.items
+        ++ row_block (row_at old.now.lens old.now.words) first count) }
+{
+    let width = old.shape().procs() as usize;
+    let begin = first as usize * width;
+    let end = (first + count) as usize * width;
+    words.extend_from_slice(&old.as_words()[begin..end])?;
     Ok(())
 }
 
-/// The row that an event had before, where it is not new. The bottom's row is kept.
-fn old_row(old: &[u32], lens: &[u32], row: u32) -> Option<u32>
-    requires count { length old.now ≡ length lens.now }
-    requires shape { IsShape old.now }
-    ensures row { result ≡ old_row old.now lens.now row }
-    ensures there { IfSome result (λ kept. kept ≤ sum old.now) }
+/// Appends the starts of the rows of a process behind those of its first events.
+fn push_new(words: &mut Vec<u16>, shape: &Shape, process: u32, events: u32) -> Result<(), NoMemory>
+    requires process { process < length shape.now }
+    requires events { events ≤ slice_index shape.now process }
+    ensures { OnOk result (words.new.items ≡ words.old.items
+        ++ row_block (start_of shape.now) (sum (take process shape.now) + 1 + events)
+        (slice_index shape.now process - events)) }
 {
-    let mut before = 0;
-    let mut left = row;
-    for (process, &len) in lens.iter().enumerate() {
-        if left <= len {
-            return if left <= old[process] {
-                Some(before + left)
-            } else {
-                None
-            };
-        }
-        left -= len;
-        before += old[process];
+    for before in events..shape.len_of(process) {
+        let position = before + 1;
+        let row = shape.row_of(EventId { process, position });
+        push_start(words, shape.lens(), row)?;
     }
-    None
+    Ok(())
 }
