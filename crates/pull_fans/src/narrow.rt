@@ -4,6 +4,9 @@ ghost use Rattle.std.specs.Prelude.{slice_index, OnOk, OnErr};
 
 use pota_base::NoMemory;
 
+/// How many numbers of a longer row are made narrow before they are appended.
+const PIECE: usize = 512;
+
 /// Appends the numbers of the row, which fit 16 bits. Without memory for all of them none is
 /// appended.
 pub(crate) fn push_narrow(entries: &mut Vec<u16>, row: &[u32]) -> Result<(), NoMemory>
@@ -11,9 +14,32 @@ pub(crate) fn push_narrow(entries: &mut Vec<u16>, row: &[u32]) -> Result<(), NoM
     ensures ok { OnOk result (entries.new.items ≡ entries.old.items ++ row.now) }
     ensures err { OnErr result (entries.new.items ≡ entries.old.items) }
 {
+    if row.len() > PIECE {
+        return push_pieces(entries, row);
+    }
     let begin = entries.len();
     entries.resize(begin + row.len(), 0)?;
     narrow(row, &mut entries[begin..]);
+    Ok(())
+}
+
+/// Appends the numbers of a long row as `push_narrow` does, but piece by piece, so that the memory
+/// of the entries is written once.
+fn push_pieces(entries: &mut Vec<u16>, row: &[u32]) -> Result<(), NoMemory>
+    requires { (i : ℕ) → slice_index row.now i < 2 ^ 16 }
+    ensures ok { OnOk result (entries.new.items ≡ entries.old.items ++ row.now) }
+    ensures err { OnErr result (entries.new.items ≡ entries.old.items) }
+{
+    entries.reserve(row.len())?;
+    let mut room = [0; PIECE];
+    let mut rest = row;
+    while !rest.is_empty() {
+        let (part, behind) = rest.split_at(rest.len().min(PIECE));
+        let piece = &mut room[..part.len()];
+        narrow(part, piece);
+        entries.extend_from_slice(piece)?;
+        rest = behind;
+    }
     Ok(())
 }
 
