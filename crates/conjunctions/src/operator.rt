@@ -34,9 +34,9 @@ fn give_back(room: Vec<u64>) {
 
 /// Gathers what EF, AG or EG over the operand asks, by its slice, and tells its truth at the
 /// initial cut.
-// The floor outlives the slice whose rows it is. Room that is taken before the slice and given back
-// behind it has the floor lie below the slice, and so the table takes the place of the slice. Else
-// that would stay a hole, a tenth of the peak of memory.
+// Where the slice does not ask alone, the floor outlives the slice whose rows it is. Room that is
+// taken before the slice and given back behind it has the floor lie below the slice, and so the
+// table takes the place of the slice. Else that would stay a hole, a tenth of the peak of memory.
 fn add_operated(
     alloc: Global,
     order: &Order,

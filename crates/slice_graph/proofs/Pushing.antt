@@ -100,6 +100,21 @@ none_more v w x n is more =
 pub none_more_yet : (v : SliceView) → v ≡ record v { rows = v.rows ++ replicate 0 no_row }
 none_more_yet v = ap (λ (rs : List (Option Cut)). record v { rows = rs }) (sym (append-nil v.rows))
 
+-- so many rows without a cut more, behind so many
+pub nones_more : (v w x : SliceView) (n m k : ℕ) → w ≡ record v { rows = v.rows ++ replicate n no_row } → n + m ≡ k → x ≡ record w { rows = w.rows ++ replicate m no_row } → x ≡ record v { rows = v.rows ++ replicate k no_row }
+nones_more v w x n m k is all more =
+    more
+    ∙ ap (λ (z : SliceView). record z { rows = z.rows ++ replicate m no_row }) is
+    ∙ ap (λ (rs : List (Option Cut)). record v { rows = rs }) (append_assoc v.rows (replicate n no_row) (replicate m no_row) ∙ ap (λ (ks : List (Option Cut)). v.rows ++ ks) (both n ∙ ap (λ (j : ℕ). replicate j no_row) all))
+  where
+    both : (n : ℕ) → replicate n no_row ++ replicate m no_row ≡ replicate (n + m) no_row
+    both zero = let none : m ≡ 0 + m = omega arith in ap (λ (j : ℕ). replicate j no_row) none
+    both (suc n) = let next : suc (n + m) ≡ suc n + m = omega arith in ap (λ (ks : List (Option Cut)). no_row ∷ ks) (both n) ∙ ap (λ (j : ℕ). replicate j no_row) next
+
+-- rows without a cut have no maximum
+pub joined_nones : (lens : List ℕ) (n procs : ℕ) (v : SliceView) → v ≡ record { lens = lens; rows = replicate n no_row } → procs ≡ length lens → replicate procs 0 ≡ joined_rows v
+joined_nones lens n procs v is count = ap (λ (k : ℕ). replicate k 0) count ∙ sym (none_joined (replicate (length lens) 0) n) ∙ ap joined_rows (sym is)
+
 -- ---- rows that rise
 
 pub rising_to : (rows : RowsView) (first n a d : ℕ) → AreRising rows first n → a + d < n → IsWithin (row_at rows.lens rows.words (first + a)) (row_at rows.lens rows.words (first + (a + d)))

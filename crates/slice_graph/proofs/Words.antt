@@ -1,5 +1,5 @@
 -- The words of rows, and a table to which rows are pushed.
-use Rattle.std.proofs.Common.{◌≡◌, ℕ, zero, suc, ◌+◌, ◌-◌, ◌*◌, ◌<◌, ◌≤◌, ◌↔◌, leb, List, [], ◌∷◌, ◌++◌, length, get_or, map, take, drop, Option, Some, None, refl, sym, ap, ◌∙◌, subst, arith, inl, inr, below_more}
+use Rattle.std.proofs.Common.{◌≡◌, ℕ, zero, suc, ◌+◌, ◌-◌, ◌*◌, ◌<◌, ◌≤◌, ◌↔◌, leb, List, [], ◌∷◌, ◌++◌, length, get_or, map, replicate, take, drop, Option, Some, None, refl, sym, ap, ◌∙◌, subst, arith, inl, inr, below_more}
 use Rattle.std.proofs.lemmas.Bool.{cases_lt, cond-true, cond-false, le-leb, lt-leb}
 use Rattle.std.proofs.lemmas.List.{length-map, get_or-map, get_or_past, get_or_append_left, get_or_push, map_push, length-append, length-drop, append_assoc, append-nil, take-append-drop}
 use Rattle.run_model.specs.Cut.{Cut, count, IsWithin}
@@ -9,7 +9,7 @@ use Rattle.causal_order.proofs.Rows.{length-rows_of, row_at, rows_push, row_with
 use Rattle.slice_graph.specs.Views.{SliceView, IsCut, IsRow, AreCuts, no_row}
 use Rattle.slice_graph.specs.Words.{past_ends, filled, cut_in, cuts_in}
 use Rattle.slice_graph.specs.inside.Pushing.{some_row}
-use Rattle.slice_graph.specs.inside.Words.{IsFilled, AreFilled, AreAllWords}
+use Rattle.slice_graph.specs.inside.Words.{IsFilled, AreFilled, AreAllWords, times}
 
 -- ---- words of a row
 
@@ -154,6 +154,29 @@ none_pushed lens absent n words new v is h more =
       subst (AreFilled lens absent (n + 1)) (sym all) (still_filled lens absent n words (past_ends lens) h (past_filled lens h.shape.some) (length-past_ends lens)),
       ap (view_of lens (n + 1)) all ∙ pushed lens n words (past_ends lens) None v is h.size (length-past_ends lens) (cut_in_past lens h.shape.some),
     )
+
+-- so many rows without a cut more
+pub nones_pushed : (lens absent : List ℕ) (n count : ℕ) (words new : List ℕ) (v : SliceView) → view_of lens n words ≡ v → AreFilled lens absent n words → new ≡ words ++ times count absent
+    → AreFilled lens absent (n + count) new × (view_of lens (n + count) new ≡ record v { rows = v.rows ++ replicate count no_row })
+nones_pushed lens absent n zero words new v is h more =
+    let same : new ≡ words = more ∙ append-nil words in
+    let still : n ≡ n + 0 = omega arith in (
+      subst (λ (k : ℕ). AreFilled lens absent k new) still (subst (AreFilled lens absent n) (sym same) h),
+      ap (λ (k : ℕ). view_of lens k new) (sym still) ∙ ap (view_of lens n) same ∙ is ∙ ap (λ (rs : List (Option Cut)). record v { rows = rs }) (sym (append-nil v.rows)),
+    )
+nones_pushed lens absent n (suc count) words new v is h more =
+    let front : List ℕ = words ++ times count absent in
+    let before = nones_pushed lens absent n count words front v is h refl in
+    let all = none_pushed lens absent (n + count) front new (record v { rows = v.rows ++ replicate count no_row }) before.1 before.0 (more ∙ sym (append_assoc words (times count absent) absent)) in
+    let next : n + count + 1 ≡ n + suc count = omega arith in (
+      subst (λ (k : ℕ). AreFilled lens absent k new) next all.0,
+      ap (λ (k : ℕ). view_of lens k new) (sym next) ∙ all.1
+          ∙ ap (λ (rs : List (Option Cut)). record v { rows = rs }) (append_assoc v.rows (replicate count no_row) (no_row ∷ []) ∙ ap (λ (ks : List (Option Cut)). v.rows ++ ks) (one_behind count)),
+    )
+  where
+    one_behind : (n : ℕ) → replicate n no_row ++ no_row ∷ [] ≡ replicate (suc n) no_row
+    one_behind zero = refl
+    one_behind (suc n) = ap (λ (ks : List (Option Cut)). no_row ∷ ks) (one_behind n)
 
 length-zero : (xs : List ℕ) → length xs ≡ 0 → xs ≡ []
 length-zero [] none = refl

@@ -70,10 +70,8 @@ impl Slice {
             ≡ record { lens = shape.now; rows = replicate (sum shape.now + 1) no_row }) }
     {
         let mut table = CutTable::new(alloc, shape)?;
-        for _row in 0..shape.events() + 1 {
-            table.push_none()?;
-        }
-        Slice::of(alloc, table)
+        table.push_nones(shape.events() + 1)?;
+        Ok(Slice::with_top(table, Cut::new(alloc, shape.procs())?))
     }
 
     /// The same slice, in memory of its own.

@@ -8,10 +8,14 @@ ghost use Rattle.causal_order.specs.Blocks.{rows_of};
 ghost use Rattle.slice_graph.specs.Words.{past_ends, filled};
 ghost use Rattle.slice_graph.specs.Views.{no_row};
 ghost use Rattle.slice_graph.specs.inside.Pushing.{some_row};
+ghost use Rattle.slice_graph.specs.inside.Words.{block_rows, times};
 
 use pota_base::{NoMemory, Shape};
 use std::alloc::Global;
 use std::marker::Model;
+
+/// How many rows without a cut are appended at once.
+const BLOCK: u32 = 16;
 
 /// The rows of a slice, or the first of them, which are pushed in row order. All of them stand in
 /// one piece of memory.
@@ -166,8 +170,18 @@ impl CutTable {
         Ok(())
     }
 
-    /// Puts so many rows without a cut behind the others.
+    /// Puts so many rows without a cut behind the others: many of them by blocks, and the rest one
+    /// after the other.
     pub(crate) fn push_nones(&mut self, count: u32) -> Result<(), NoMemory>
+        ensures { OnOk result (self.new
+            ≡ record self.old { rows = self.old.rows ++ replicate count no_row }) }
+    {
+        self.push_blocks(count / BLOCK)?;
+        self.push_few(count % BLOCK)
+    }
+
+    /// Puts so many rows without a cut behind the others, one after the other.
+    fn push_few(&mut self, count: u32) -> Result<(), NoMemory>
         ensures { OnOk result (self.new
             ≡ record self.old { rows = self.old.rows ++ replicate count no_row }) }
     {
@@ -176,6 +190,43 @@ impl CutTable {
         }
         Ok(())
     }
+
+    /// Puts so many blocks of rows without a cut behind the others.
+    fn push_blocks(&mut self, count: u32) -> Result<(), NoMemory>
+        ensures { OnOk result (self.new
+            ≡ record self.old { rows = self.old.rows ++ replicate (count * block_rows) no_row }) }
+    {
+        if count == 0 {
+            return Ok(());
+        }
+        let block = block_of(*self.words.allocator(), self.absent())?;
+        for _block in 0..count {
+            self.push_block(block.as_slice())?;
+        }
+        Ok(())
+    }
+
+    /// Puts a block of rows without a cut behind the others.
+    fn push_block(&mut self, block: &[u32]) -> Result<(), NoMemory>
+        requires { block.now ≡ times block_rows (past_ends self.old.lens) }
+        ensures { OnOk result (self.new
+            ≡ record self.old { rows = self.old.rows ++ replicate block_rows no_row }) }
+    {
+        self.words.extend_from_slice(block)?;
+        self.len += BLOCK as usize;
+        Ok(())
+    }
+}
+
+/// The words of a row, so many times that they are a block.
+fn block_of(alloc: Global, row: &[u32]) -> Result<Vec<u32>, NoMemory>
+    ensures { IfOk result (λ block. block.items ≡ times block_rows row.now) }
+{
+    let mut block = Vec::new(alloc);
+    for _row in 0..BLOCK {
+        block.extend_from_slice(row)?;
+    }
+    Ok(block)
 }
 
 /// Appends the numbers, in 32 bits. Without memory for all of them none is appended.

@@ -1,10 +1,19 @@
 -- Inside: how a slice's rows stand in words.
-use Rattle.std.specs.Prelude.{◌≡◌, ℕ, ◌+◌, ◌*◌, ◌<◌, List, [], length, get_or}
+use Rattle.std.specs.Prelude.{◌≡◌, ℕ, zero, suc, ◌+◌, ◌*◌, ◌<◌, List, [], ◌++◌, length, get_or}
 use Rattle.run_model.specs.Cut.{count}
 use Rattle.pota_base.specs.Shape.{IsShape}
 use Rattle.causal_order.specs.Blocks.{rows_of}
 use Rattle.slice_graph.specs.Views.{SliceView, IsRow, no_row}
 use Rattle.slice_graph.specs.Words.{cut_in, filled, past_ends, row_words}
+
+-- the words so many times, one behind the other
+abbrev pub times : ℕ → List ℕ → List ℕ
+times zero words = []
+times (suc n) words = times n words ++ words
+
+-- so many rows without a cut are put at once
+abbrev pub block_rows : ℕ
+block_rows = 16
 
 -- the words are those of a row that has no cut or one within the lengths
 pub record IsFilled (lens words : List ℕ) : Type 0 where

@@ -1,8 +1,10 @@
-use Rattle.slice_graph.proofs.Pushing.{none_more, none_more_yet}
+use Rattle.std.proofs.Common.{◌*◌, ◌/◌, ◌%◌, arith}
+use Rattle.std.proofs.lemmas.Result.{on_ok_weaker}
+use Rattle.slice_graph.proofs.Pushing.{nones_more}
 use Rattle.slice_graph.proofs.table.CutTable.push_nones.Goals as goal
 
-pub loop-row-init : goal.loop-row-init
-loop-row-init c = none_more_yet c.args.self.now
-
-pub loop-row-preserved : goal.loop-row-preserved
-loop-row-preserved c = none_more c.args.self.now c.loop-row.self _ c.loop-row._row c.loop-row.invariant c.in_ok-push_none.ensures.ok
+pub returns : goal.returns
+returns c =
+    let count = c.args.count in
+    on_ok_weaker c.push_few.result
+    (nones_more c.args.self.now c.push_blocks.new.self c.push_few.new.self (count / 16 * 16) (count % 16) count c.in_ok-push_blocks.ensures (omega arith)) c.push_few.ensures
